@@ -1,0 +1,53 @@
+-- What terms within their limits bound: hours, factor, net prices, and the products that credits and penalties are made of.
+use mathlib.Core.Path.{_≡_}
+use mathlib.Core.Bool.{false}
+use Prim.Native.Nat.{ℕ, _*_, _^_, _≤_, _<_}
+use native.Mathlib.Omega.{arith}
+use lib.Dec.{eqb, ltb}
+use Rattle.std.proofs.shelf.Bits.{mul-le}
+use Rattle.std.proofs.shelf.Tests.{or-parts, ltb-false, eqb-false, cond-both}
+use Rattle.figures.specs.Prices.{beyond, priceOf, netOf}
+use Rattle.figures.specs.declared.prices.TermFigures.{TermFigures}
+
+pub record Limits (f : TermFigures) : Type 0 where
+  pub some : 0 < f .hours
+  pub hours : f .hours ≤ 744
+  pub tmnsr : f .tmnsr .0 ≤ 2000000
+  pub tmor : f .tmor .0 ≤ 2000000
+  pub capacity : f .capacity .0 ≤ 2000000
+  pub factor : f .factor .0 ≤ 500
+
+pub limits : (f : TermFigures) → beyond f ≡ false → Limits f
+limits f h =
+    let a = or-parts _ _ h in
+    let b = or-parts _ _ (a .1) in
+    let d = or-parts _ _ (b .1) in
+    let e = or-parts _ _ (d .1) in
+    let g = or-parts _ _ (e .1) in
+    record {
+      some = let z = eqb-false (f .hours) 0 (a .0) in omega arith;
+      hours = ltb-false 744 (f .hours) (b .0);
+      tmnsr = ltb-false 2000000 (f .tmnsr .0) (d .0);
+      tmor = ltb-false 2000000 (f .tmor .0) (e .0);
+      capacity = ltb-false 2000000 (f .capacity .0) (g .0);
+      factor = ltb-false 500 (f .factor .0) (g .1) }
+
+module _ (f : TermFigures) (h : beyond f ≡ false) where
+  price-le : (p : ℕ) → priceOf f p ≤ 2000000
+  price-le p =
+      let l = limits f h in
+      cond-both (eqb p 0) _ _ (λ (x : ℕ). x ≤ 2000000) (λ _. l .tmnsr)
+      (λ _. cond-both (eqb p 1) _ _ (λ (x : ℕ). x ≤ 2000000) (λ _. l .tmor) (λ _. omega arith))
+
+  pub net-le : (p : ℕ) → netOf f p ≤ 2000000
+  net-le p = let a = price-le p in omega arith
+
+  -- the amounts that are rounded, for any number of kW that a call can be given
+  pub credit-below : (p k : ℕ) → k < 2 ^ 32 → k * netOf f p < 2 ^ 53
+  credit-below p k s = let m : k * netOf f p ≤ 4294967295 * 2000000 = mul-le k (netOf f p) 4294967295 2000000 (omega arith) (net-le p) in omega arith
+
+  pub penalty-below : (p k : ℕ) → k < 2 ^ 32 → k * netOf f p * f .factor .0 < 2 ^ 62
+  penalty-below p k s =
+      let m : k * netOf f p ≤ 8589934590000000 = mul-le k (netOf f p) 4294967295 2000000 (omega arith) (net-le p) in
+      let n : k * netOf f p * f .factor .0 ≤ 8589934590000000 * 500 = mul-le (k * netOf f p) (f .factor .0) 8589934590000000 500 m (limits f h .factor) in
+      omega arith
