@@ -1,0 +1,24 @@
+-- How large the loads of a fair division are together, and its products.
+use mathlib.Core.List.{List}
+use Prim.Native.Nat.{ℕ, _*_, _≤_}
+use native.Mathlib.Omega.{arith}
+use lib.ListN.{length, take}
+use Rattle.std.specs.shelf.Lists.{sum}
+use Rattle.std.proofs.shelf.Elements.{all-from-getD}
+use Rattle.std.proofs.shelf.Sums.{sumBy-le, sumBy-take-le}
+use Rattle.std.proofs.shelf.Bits.{mul-le}
+use Rattle.division.specs.Rules.{Fair}
+
+module _ (t : ℕ) (ls : List ℕ) (f : Fair t ls) where
+  pub sum-le : sum ls ≤ 4800000
+  sum-le =
+      let a = sumBy-le (λ x. x) 300000 ls (all-from-getD _ ls 0 (f .light)) in
+      let b = mul-le (length ls) 300000 16 300000 (f .few) (omega arith) in
+      omega arith
+
+  pub sum-take-le : (s : ℕ) → sum (take s ls) ≤ 4800000
+  sum-take-le s = let a = sum-le in let b = sumBy-take-le (λ x. x) ls s in omega arith
+
+  -- the total by a part of the loads
+  pub product-le : (x : ℕ) → x ≤ 4800000 → t * x ≤ 7200000000000000000
+  product-le x h = mul-le t x 1500000000000 4800000 (f .small) h

@@ -1,0 +1,4 @@
+pub mod Asked
+pub mod Bounds
+pub mod Cutting
+pub mod Figures

@@ -1,0 +1,3 @@
+pub mod Columns
+pub mod Rules
+pub mod Cut

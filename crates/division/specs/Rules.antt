@@ -1,0 +1,83 @@
+-- What a rule that divides a total among seats by their loads owes. Assumes nothing.
+--   heavy ls             some load is above 300,000
+--   unfit ls n           the loads, or a share column of length n, are not what a division takes
+--   ruleGrounds z ls n   the grounds on which a rule denies the total z
+--   signedGrounds z ls n the same for the division of a signed total
+--   groundOf e           number, layer and place of a fault
+--   Divided gs new was r out
+--                        under the grounds gs a call answered r; its share column, was before it, is out after it:
+--                        new where the call was done, and else unaltered
+--   Fair t ls            a total and loads that a rule divides
+--   Lawful t ls xs       the shares xs keep the law of a rule
+--   signedShares f z ls  the shares of a signed total, f giving those of its size
+--   Balanced z ls zs     signed shares keep the law
+use mathlib.Core.Path.{_≡_, refl}
+use mathlib.Core.Bool.{Bool, false, not, _||_, _&&_}
+use mathlib.Core.List.{List, [], _∷_, map}
+use Prim.Native.Nat.{ℕ, zero, suc, _*_, _≤_, _<_}
+use lib.Dec.{eqb, ltb}
+use lib.IntN.{ℤ, pos, negsuc, negℤ, natAbs, _+ℤ_, _-ℤ_, _*ℤ_}
+use lib.ListN.{length, getD}
+use lib.Signed.{ltZ}
+use Rattle.std.specs.Iters.{folded}
+use Rattle.std.specs.shelf.Lists.{sum}
+use Rattle.std.specs.declared.result.Result.{Result}
+use Rattle.std.specs.declared.result.Result.the-variants.{Ok, Err}
+use Rattle.figures.specs.Grounds.{Judged}
+use Rattle.figures.specs.Rounding.{apart}
+use Rattle.figures.specs.declared.grounds.Ground.{Ground}
+use Rattle.figures.specs.declared.grounds.Layer.the-variants.{Rule}
+use Rattle.division.specs.declared.rules.DivisionFault.{DivisionFault}
+use Rattle.division.specs.declared.rules.DivisionFault.the-variants.{Beyond, NoLoad}
+
+abbrev pub heavy : List ℕ → Bool
+heavy [] = false
+heavy (l ∷ ls) = ltb 300000 l || heavy ls
+
+abbrev pub unfit : List ℕ → ℕ → Bool
+unfit ls n = eqb (length ls) 0 || (ltb 16 (length ls) || (heavy ls || not (eqb n (length ls))))
+
+abbrev pub ruleGrounds : ℤ → List ℕ → ℕ → List (Bool × DivisionFault)
+ruleGrounds z ls n = (ltZ z (pos 0) || (ltb 1500000000000 (natAbs z) || unfit ls n), Beyond) ∷ (eqb (sum ls) 0, NoLoad) ∷ []
+
+abbrev pub signedGrounds : ℤ → List ℕ → ℕ → List (Bool × DivisionFault)
+signedGrounds z ls n = (ltb 1500000000000 (natAbs z) || unfit ls n, Beyond) ∷ (not (eqb (natAbs z) 0) && eqb (sum ls) 0, NoLoad) ∷ []
+
+abbrev pub groundOf : DivisionFault → Ground
+groundOf Beyond = record { number = 21; layer = Rule; place = 0 }
+groundOf NoLoad = record { number = 22; layer = Rule; place = 0 }
+
+abbrev pub after : {T F X : Type 0} → Result T F → X → X → X
+after (Ok x) new was = new
+after (Err e) new was = was
+
+pub record Divided {F X : Type 0} (gs : List (Bool × F)) (new was : List X) (r : Result Unit F) (out : List X) : Type 0 where
+  pub judged : Judged gs r
+  pub column : out ≡ after r new was
+
+pub record Fair (t : ℕ) (ls : List ℕ) : Type 0 where
+  pub small : t ≤ 1500000000000
+  pub some : 0 < length ls
+  pub few : length ls ≤ 16
+  pub light : (s : ℕ) → s < length ls → getD ls s 0 ≤ 300000
+  pub busy : 0 < sum ls
+
+-- one share a seat; together the total; each less than a cent from total × load ÷ all loads
+pub record Lawful (t : ℕ) (ls xs : List ℕ) : Type 0 where
+  pub many : length xs ≡ length ls
+  pub adds : sum xs ≡ t
+  pub near : (s : ℕ) → s < length ls → apart (t * getD ls s 0) (sum ls) (getD xs s 0) < sum ls
+
+-- a total of 0 gives 0 to each; a negative one is divided as its opposite, and every share negated
+abbrev pub signedShares : (ℕ → List ℕ → List ℕ) → ℤ → List ℕ → List ℤ
+signedShares f (pos zero) ls = map (λ _. pos 0) ls
+signedShares f (pos (suc n)) ls = map pos (f (suc n) ls)
+signedShares f (negsuc n) ls = map (λ x. negℤ (pos x)) (f (suc n) ls)
+
+abbrev pub sumℤ : List ℤ → ℤ
+sumℤ zs = folded _+ℤ_ (pos 0) zs
+
+pub record Balanced (z : ℤ) (ls : List ℕ) (zs : List ℤ) : Type 0 where
+  pub many : length zs ≡ length ls
+  pub adds : sumℤ zs ≡ z
+  pub near : (s : ℕ) → s < length ls → 0 < sum ls → natAbs (getD zs s (pos 0) *ℤ pos (sum ls) -ℤ z *ℤ pos (getD ls s 0)) < sum ls

@@ -1,0 +1,11 @@
+// Division of a total among seats by their loads: the rules, and what every rule owes.
+mod cut;
+mod rules;
+pub use cut::RunningCut;
+pub use cut::RunningCutRule;
+pub use rules::DivisionFault;
+pub use rules::DivisionRule;
+pub use rules::MAX_LOAD;
+pub use rules::MAX_SEATS;
+pub use rules::MAX_TOTAL;
+pub use rules::ready;
