@@ -2,3 +2,6 @@ pub mod Asked
 pub mod Bounds
 pub mod Cutting
 pub mod Figures
+pub mod Ranks
+pub mod Remaining
+pub mod SeatSums

@@ -1,3 +1,4 @@
 pub mod Columns
 pub mod Rules
 pub mod Cut
+pub mod Remainder

@@ -1,8 +1,11 @@
 // Division of a total among seats by their loads: the rules, and what every rule owes.
 mod cut;
+mod remainder;
 mod rules;
 pub use cut::RunningCut;
 pub use cut::RunningCutRule;
+pub use remainder::LargestRemainder;
+pub use remainder::LargestRemainderRule;
 pub use rules::DivisionFault;
 pub use rules::DivisionRule;
 pub use rules::MAX_LOAD;
