@@ -5,3 +5,4 @@ pub mod Figures
 pub mod Ranks
 pub mod Remaining
 pub mod SeatSums
+pub mod Signs

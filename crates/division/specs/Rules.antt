@@ -11,6 +11,8 @@
 --   Lawful t ls xs       the shares xs keep the law of a rule
 --   signedShares f z ls  the shares of a signed total, f giving those of its size
 --   Balanced z ls zs     signed shares keep the law
+--   SignedDivided f z ls was r out
+--                        the same of a division of the signed total z by a rule that means f; the shares keep the law
 use mathlib.Core.Path.{_≡_, refl}
 use mathlib.Core.Bool.{Bool, false, not, _||_, _&&_}
 use mathlib.Core.List.{List, [], _∷_, map}
@@ -20,6 +22,7 @@ use lib.IntN.{ℤ, pos, negsuc, negℤ, natAbs, _+ℤ_, _-ℤ_, _*ℤ_}
 use lib.ListN.{length, getD}
 use lib.Signed.{ltZ}
 use Rattle.std.specs.Iters.{folded}
+use Rattle.std.specs.Vec.{made}
 use Rattle.std.specs.shelf.Lists.{sum}
 use Rattle.std.specs.declared.result.Result.{Result}
 use Rattle.std.specs.declared.result.Result.the-variants.{Ok, Err}
@@ -27,6 +30,8 @@ use Rattle.figures.specs.Grounds.{Judged}
 use Rattle.figures.specs.Rounding.{apart}
 use Rattle.figures.specs.declared.grounds.Ground.{Ground}
 use Rattle.figures.specs.declared.grounds.Layer.the-variants.{Rule}
+use Rattle.figures.specs.declared.units.Cents.{Cents}
+use Rattle.division.specs.Columns.{centsOf, amounts}
 use Rattle.division.specs.declared.rules.DivisionFault.{DivisionFault}
 use Rattle.division.specs.declared.rules.DivisionFault.the-variants.{Beyond, NoLoad}
 
@@ -81,3 +86,8 @@ pub record Balanced (z : ℤ) (ls : List ℕ) (zs : List ℤ) : Type 0 where
   pub many : length zs ≡ length ls
   pub adds : sumℤ zs ≡ z
   pub near : (s : ℕ) → s < length ls → 0 < sum ls → natAbs (getD zs s (pos 0) *ℤ pos (sum ls) -ℤ z *ℤ pos (getD ls s 0)) < sum ls
+
+pub record SignedDivided (f : ℕ → List ℕ → List ℕ) (z : ℤ) (ls : List ℕ) (was : List Cents) (r : Result Unit DivisionFault) (out : List Cents) : Type 0 where
+  pub judged : Judged (signedGrounds z ls (length was)) r
+  pub column : out ≡ after r (centsOf (signedShares f z ls)) was
+  pub balanced : made r (λ _. Balanced z ls (amounts out))

@@ -2,6 +2,7 @@
 mod cut;
 mod remainder;
 mod rules;
+mod signed;
 pub use cut::RunningCut;
 pub use cut::RunningCutRule;
 pub use remainder::LargestRemainder;
@@ -12,3 +13,4 @@ pub use rules::MAX_LOAD;
 pub use rules::MAX_SEATS;
 pub use rules::MAX_TOTAL;
 pub use rules::ready;
+pub use signed::divide_signed;

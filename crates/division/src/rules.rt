@@ -10,7 +10,7 @@ ghost use Rattle.std.specs.Vec.{made};
 ghost use Rattle.std.specs.shelf.Lists.{sum};
 ghost use Rattle.figures.specs.Grounds.{Judged};
 ghost use Rattle.division.specs.Columns.{tenths, centsOf};
-ghost use Rattle.division.specs.Rules.{heavy, ruleGrounds, groundOf, Divided, Fair, Lawful};
+ghost use Rattle.division.specs.Rules.{unfit, ruleGrounds, groundOf, Divided, Fair, Lawful};
 use figures::Cents;
 use figures::Ground;
 use figures::Layer;
@@ -66,11 +66,13 @@ pub trait DivisionRule {
         ensures { λ r. ⌜ Divided (ruleGrounds (total .0) (tenths (now (loads .entry))) (length (now (out .entry)))) (centsOf (map pos (shares (now (self .entry)) (natAbs (total .0)) (tenths (now (loads .entry)))))) (now (out .entry)) r (now (out .exit)) ⌝ };
 }
 
-// The sum of the loads, where none is above its limit.
-fn sum_of(loads: &[Load]) -> Option<u64>
-    requires { ⌜ length (now loads) ≤ 16 ⌝ }
-    ensures { λ r. ⌜ BySome r (heavy (tenths (now (loads .entry))) ≡ true) (λ n. (heavy (tenths (now (loads .entry))) ≡ false) × (n ≡ sum (tenths (now (loads .entry))))) ⌝ }
+// The sum of the loads, where they and a share column of length `room` are what a division takes.
+pub(crate) fn sum_if_fit(loads: &[Load], room: usize) -> Option<u64>
+    ensures { λ r. ⌜ BySome r (unfit (tenths (now (loads .entry))) room ≡ true) (λ n. (unfit (tenths (now (loads .entry))) room ≡ false) × (n ≡ sum (tenths (now (loads .entry))))) ⌝ }
 {
+    if loads.len() == 0 || loads.len() > MAX_SEATS || room != loads.len() {
+        return None;
+    }
     let mut all: u64 = 0;
     for load in loads {
         if load.0 > MAX_LOAD {
@@ -89,10 +91,7 @@ pub fn ready(total: Cents, loads: &[Load], room: usize) -> Result<u64, DivisionF
     if total.0 < 0 || total.0 > MAX_TOTAL {
         return Err(DivisionFault::Beyond);
     }
-    if loads.len() == 0 || loads.len() > MAX_SEATS || room != loads.len() {
-        return Err(DivisionFault::Beyond);
-    }
-    match sum_of(loads) {
+    match sum_if_fit(loads, room) {
         None => Err(DivisionFault::Beyond),
         Some(0) => Err(DivisionFault::NoLoad),
         Some(all) => Ok(all),

@@ -1,6 +1,5 @@
 use mathlib.Core.Path.{_≡_}
 use native.Mathlib.Omega.{arith}
-use lib.IntN.{ℤ}
 use Rattle.std.specs.declared.option.Option.the-variants.{None}
 use Rattle.std.proofs.shelf.Ways.{tells}
 use Rattle.std.proofs.shelf.Signed.{ints}
@@ -10,12 +9,6 @@ use Rattle.division.specs.Rules.{ruleGrounds}
 use Rattle.division.proofs.Asked.{fair}
 use Rattle.division.proofs.Figures.{length-tenths}
 use Rattle.division.proofs.rules.ready.Needs as need
-
-pub returns-then-loads-eq0 : need.returns-then-loads-eq0
-returns-then-loads-eq0 c = let n = length-tenths (c .args .loads .now) in record { judged = grind (arith, tells); fair = tt }
-
-pub returns-in-Some-eq0 : need.returns-in-Some-eq0
-returns-in-Some-eq0 c = let n = length-tenths (c .args .loads .now) in record { judged = grind (arith, tells, ints); fair = tt }
 
 pub returns-in-Some : need.returns-in-Some
 returns-in-Some c =

@@ -3,7 +3,7 @@ use Prim.Native.Nat.{ℕ, _*_, _≤_, _<_}
 use lib.ListN.{getD, take}
 use Rattle.std.specs.shelf.Lists.{sum}
 use Rattle.division.specs.Columns.{tenths}
-use Rattle.division.proofs.rules.sum_of.Given as given
+use Rattle.division.proofs.rules.sum_if_fit.Given as given
 
 abbrev pub Inv-loop-load : given.InvT-loop-load
 Inv-loop-load l =

@@ -5,10 +5,14 @@ use native.Mathlib.Omega.{arith}
 use lib.ListN.{length, getD}
 use Rattle.std.specs.shelf.Lists.{sum}
 use Rattle.std.proofs.shelf.Lists.{take-all}
+use Rattle.std.proofs.shelf.Ways.{tells}
 use Rattle.division.specs.Columns.{tenths}
 use Rattle.division.proofs.Asked.{light-heavy, heavy-at}
 use Rattle.division.proofs.Figures.{length-tenths, tenths-at, sum-more}
-use Rattle.division.proofs.rules.sum_of.Needs as need
+use Rattle.division.proofs.rules.sum_if_fit.Needs as need
+
+pub returns-then-loads-eq0 : need.returns-then-loads-eq0
+returns-then-loads-eq0 c = let n = length-tenths (c .args .loads .now) in grind (arith, tells)
 
 pub returns-then-load-gt-MAX-LOAD : need.returns-then-load-gt-MAX-LOAD
 returns-then-load-gt-MAX-LOAD c =
@@ -17,7 +21,8 @@ returns-then-load-gt-MAX-LOAD c =
     let lt : i < length loads = omega arith in
     let n = length-tenths loads in
     let a = tenths-at loads i lt in
-    heavy-at (tenths loads) i (omega arith) (omega arith)
+    let h = heavy-at (tenths loads) i (omega arith) (omega arith) in
+    grind (arith, tells)
 
 pub loop-load-again : need.loop-load-again
 loop-load-again c =
@@ -32,5 +37,6 @@ pub returns : need.returns
 returns c =
     let loads = c .args .loads .now in
     let n = length-tenths loads in
-    ( light-heavy (tenths loads) (λ s lt. c .loop-load .inv .2 s (omega arith))
+    let h = light-heavy (tenths loads) (λ s lt. c .loop-load .inv .2 s (omega arith)) in
+    ( grind (arith, tells)
     , c .loop-load .inv .0 ∙ ap sum (take-all (c .loop-load .load-index) (tenths loads) (omega arith)) )
