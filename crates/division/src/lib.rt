@@ -1,8 +1,8 @@
 // Division of a total among seats by their loads: the rules, and what every rule owes.
-mod cut;
-mod remainder;
-mod rules;
-mod signed;
+pub mod cut;
+pub mod remainder;
+pub mod rules;
+pub mod signed;
 pub use cut::RunningCut;
 pub use cut::RunningCutRule;
 pub use remainder::LargestRemainder;

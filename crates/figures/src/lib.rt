@@ -1,7 +1,7 @@
 // Units, grounds and prices: the figures that everything else is reckoned in.
-mod grounds;
-mod prices;
-mod units;
+pub mod grounds;
+pub mod prices;
+pub mod units;
 pub use grounds::Ground;
 pub use grounds::Layer;
 pub use prices::MAX_FACTOR;

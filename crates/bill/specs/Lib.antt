@@ -1,0 +1,4 @@
+pub mod Figures
+pub mod Fields
+pub mod Lines
+pub mod Bills
