@@ -15,6 +15,7 @@ ghost use Rattle.bill.specs.Fields.{blank, fieldsOf, Values, Failing};
 use std::alloc::AllocError;
 use std::alloc::Global;
 use std::alloc::Refused;
+use std::fmt;
 
 // Why a line gives no figures.
 #[derive(Clone, Copy, PartialEq, Eq, Debug)]
@@ -24,6 +25,17 @@ pub enum LineFault {
     // The number, counted from 1, of the first field that is no figure.
     NotFigure(usize),
     NoMemory,
+}
+
+// What was expected of the line.
+pub impl fmt::Display for LineFault as LineFaultDisplay {
+    fn fmt<W: fmt::Write>(&self, f: &mut fmt::Formatter<W>) -> fmt::Result {
+        match self {
+            LineFault::Blank => write!(f, "no figures: expected a total in cents, then the loads"),
+            LineFault::NotFigure(k) => write!(f, "field {k} is not a whole number: expected a total in cents, then the loads"),
+            LineFault::NoMemory => write!(f, "no memory to read it"),
+        }
+    }
 }
 
 pub impl From<AllocError> for LineFault as LineFaultFromAlloc {
