@@ -23,7 +23,7 @@ use Rattle.bill.specs.Bills.{carried, loadOf, Billed, answered, answerText}
 
 -- one load more
 pub loads-more : (vs ws : List Load) (l : Load) (xs : List ℤ) (i : ℕ) → i < length xs → ws ≡ vs ++ (l ∷ []) → tenths vs ≡ map carried (take i xs)
-  → l .0 ≡ carried (getD xs i (pos 0)) → tenths ws ≡ map carried (take (i + 1) xs)
+    → l .0 ≡ carried (getD xs i (pos 0)) → tenths ws ≡ map carried (take (i + 1) xs)
 loads-more vs ws l xs i lt w e v =
     ap tenths w
     ∙ (map-push (λ (k : Load). k .0) vs l
@@ -36,12 +36,13 @@ billed [] zs z rest ls v s c = let w : _≡_ {A = ℕ} 0 1 = (let e : [] ≡ map
 billed (f ∷ fs) zs z rest ls v s c =
     let e : map valueOf (f ∷ fs) ≡ map Some (z ∷ rest) = v ∙ ap (map Some) s in
     let head : valueOf f ≡ Some z = cc in
-    let tail : map valueOf fs ≡ map Some rest = cc in
-    ( head
-    , sym (map-map (mapped carried) valueOf fs)
-      ∙ (ap (map (mapped carried)) tail
-      ∙ (map-map (mapped carried) Some rest
-      ∙ (sym (map-map Some carried rest) ∙ ap (map Some) (sym c)))) )
+    let tail : map valueOf fs ≡ map Some rest = cc in (
+      head,
+      sym (map-map (mapped carried) valueOf fs)
+          ∙ (ap (map (mapped carried)) tail
+          ∙ (map-map (mapped carried) Some rest
+          ∙ (sym (map-map Some carried rest) ∙ ap (map Some) (sym c)))),
+    )
 
 pub no-fields : (fs : List (List ℕ)) (zs : List ℤ) → Values fs zs → length zs ≡ 0 → fs ≡ []
 no-fields fs zs v n = nil-from-length fs (sym (length-map fs valueOf) ∙ (ap length v ∙ (length-map zs Some ∙ n)))

@@ -1,5 +1,6 @@
 -- The fields of a line, and what reading them answers. Assumes nothing.
 --   blank b            b is a space, a tab or a carriage return
+--   ofKind w b         b is blank, or, where w is false, is not
 --   closed f fs        the fields fs after the field f; an empty f is no field
 --   fieldsAfter f bs   the fields of bs, the first of them begun by f
 --   fieldsOf bs        the fields of bs, in order: its longest runs of bytes that are not blank
@@ -8,7 +9,7 @@
 --   Failing fs e       the fault e is right of the fields fs: at NotFigure k the first k - 1 are figures and the k-th is none;
 --                      a blank line is no fault here, since it gives no figures; NoMemory says nothing
 use mathlib.Core.Path.{_≡_, refl}
-use mathlib.Core.Bool.{Bool, true, cond, _||_}
+use mathlib.Core.Bool.{Bool, true, false, not, cond, _||_}
 use mathlib.Core.List.{List, [], _∷_, _++_, map}
 use Prim.Native.Nat.{ℕ, _-_, _<_, _≤_}
 use lib.Chars.{codes}
@@ -26,6 +27,10 @@ use Rattle.bill.specs.declared.fields.LineFault.the-variants.{Blank, NotFigure
 
 abbrev pub blank : ℕ → Bool
 blank b = eqb b 32 || (eqb b 9 || eqb b 13)
+
+abbrev pub ofKind : Bool → ℕ → Bool
+ofKind true b = blank b
+ofKind false b = not (blank b)
 
 abbrev pub closed : List ℕ → List (List ℕ) → List (List ℕ)
 closed [] fs = fs

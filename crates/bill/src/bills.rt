@@ -8,13 +8,13 @@ ghost use Rattle.std.specs.Vec.{made};
 ghost use Rattle.division.specs.Columns.{tenths};
 ghost use Rattle.bill.specs.Fields.{fieldsOf};
 ghost use Rattle.bill.specs.Bills.{carried, Billed, Unread, answerText};
-use crate::fields::read_figures;
 use crate::fields::LineFault;
 use crate::fields::LineFaultFromAlloc;
+use crate::fields::read_figures;
 use crate::text::denied_line;
 use crate::text::shares_line;
-use division::divide_signed;
 use division::DivisionRule;
+use division::divide_signed;
 use figures::Cents;
 use figures::Load;
 use std::alloc::AllocError;
@@ -37,7 +37,10 @@ impl Bill {
             return Err(LineFault::Blank);
         };
         let loads = loads_of(heap, rest)?;
-        Ok(Bill { total: Cents(*total), loads })
+        Ok(Bill {
+            total: Cents(*total),
+            loads,
+        })
     }
 }
 
@@ -66,11 +69,23 @@ pub fn answer<R: DivisionRule>(heap: Global, rule: &R, bill: &Bill) -> Result<St
     ensures { λ r. ⌜ made r (λ s. string-bytes s ≡ answerText (R·DivisionRule .code) (R·DivisionRule .shares (now (rule .entry))) (now (bill .entry) .total .0) (tenths (vec-items (now (bill .entry) .loads)))) ⌝ }
 {
     let mut column = vec![in heap; Cents(0); bill.loads.len()]?;
-    answer_in(heap, rule, bill.total, bill.loads.as_slice(), column.as_mut_slice())
+    answer_in(
+        heap,
+        rule,
+        bill.total,
+        bill.loads.as_slice(),
+        column.as_mut_slice(),
+    )
 }
 
 // The same, with a share column.
-fn answer_in<R: DivisionRule>(heap: Global, rule: &R, total: Cents, loads: &[Load], column: &mut [Cents]) -> Result<String, AllocError>
+fn answer_in<R: DivisionRule>(
+    heap: Global,
+    rule: &R,
+    total: Cents,
+    loads: &[Load],
+    column: &mut [Cents],
+) -> Result<String, AllocError>
     requires { ⌜ length (now column) ≡ length (now loads) ⌝ }
     ensures { λ r. ⌜ made r (λ s. string-bytes s ≡ answerText (R·DivisionRule .code) (R·DivisionRule .shares (now (rule .entry))) (total .0) (tenths (now (loads .entry)))) ⌝ }
 {

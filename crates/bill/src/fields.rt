@@ -1,5 +1,4 @@
 ghost use mathlib.Core.Path.{_≡_};
-ghost use mathlib.Core.Bool.{not};
 ghost use mathlib.Core.List.{[], _∷_};
 ghost use Prim.Native.Nat.{_-_, _^_, _<_, min};
 ghost use lib.IntN.{pos, negℤ};
@@ -11,7 +10,7 @@ ghost use Rattle.std.specs.Results.{Cases as ByOk};
 ghost use Rattle.std.specs.shelf.Lists.{leading};
 ghost use Rattle.bill.specs.declared.fields.LineFault.the-variants.{NoMemory};
 ghost use Rattle.bill.specs.Figures.{numberOf, figureOf};
-ghost use Rattle.bill.specs.Fields.{blank, fieldsOf, Values, Failing};
+ghost use Rattle.bill.specs.Fields.{blank, ofKind, fieldsOf, Values, Failing};
 use std::alloc::AllocError;
 use std::alloc::Global;
 use std::alloc::Refused;
@@ -32,7 +31,10 @@ pub impl fmt::Display for LineFault as LineFaultDisplay {
     fn fmt<W: fmt::Write>(&self, f: &mut fmt::Formatter<W>) -> fmt::Result {
         match self {
             LineFault::Blank => write!(f, "no figures: expected a total in cents, then the loads"),
-            LineFault::NotFigure(k) => write!(f, "field {k} is not a whole number: expected a total in cents, then the loads"),
+            LineFault::NotFigure(k) => write!(
+                f,
+                "field {k} is not a whole number: expected a total in cents, then the loads"
+            ),
             LineFault::NoMemory => write!(f, "no memory to read it"),
         }
     }
@@ -104,24 +106,12 @@ fn is_blank(b: u8) -> bool
     b == b' ' || b == b'\t' || b == b'\r'
 }
 
-// How many bytes at the front are blank.
-fn blank_len(line: &[u8]) -> usize
-    ensures { λ r. ⌜ r ≡ leading blank (now (line .entry)) ⌝ }
+// How many bytes at the front are blank, or, where `blanks` is false, are not.
+fn run_len(line: &[u8], blanks: bool) -> usize
+    ensures { λ r. ⌜ r ≡ leading (ofKind blanks) (now (line .entry)) ⌝ }
 {
     for (i, b) in line.iter().enumerate() {
-        if !is_blank(*b) {
-            return i;
-        }
-    }
-    line.len()
-}
-
-// How many bytes at the front are not blank.
-fn field_len(line: &[u8]) -> usize
-    ensures { λ r. ⌜ r ≡ leading (λ b. not (blank b)) (now (line .entry)) ⌝ }
-{
-    for (i, b) in line.iter().enumerate() {
-        if is_blank(*b) {
+        if is_blank(*b) != blanks {
             return i;
         }
     }
@@ -132,11 +122,11 @@ fn field_len(line: &[u8]) -> usize
 fn next_field(line: &[u8]) -> Option<(&[u8], &[u8])>
     ensures { λ r. ⌜ BySome r (fieldsOf (now (line .entry)) ≡ []) (λ p. (fieldsOf (now (line .entry)) ≡ now (p .0) ∷ fieldsOf (now (p .1))) × (length (now (p .1)) < length (now (line .entry)))) ⌝ }
 {
-    let (_, rest) = line.split_at(blank_len(line));
+    let (_, rest) = line.split_at(run_len(line, true));
     if rest.is_empty() {
         return None;
     }
-    Some(rest.split_at(field_len(rest)))
+    Some(rest.split_at(run_len(rest, false)))
 }
 
 // The figures of a line, in order.

@@ -2,6 +2,7 @@
 pub mod bills;
 pub mod fields;
 pub mod text;
+
 pub use bills::Bill;
 pub use bills::answer;
 pub use fields::LineFault;

@@ -1,8 +1,8 @@
 // Divides hourly bills. Each line of standard input is a signed total in cents and then the loads of the seats; for each
 // it prints two lines, what the running cut and then what the largest-remainder rule charges each seat.
+use bill::Bill;
 use bill::answer;
 use bill::fields::LineFaultDisplay;
-use bill::Bill;
 use division::LargestRemainder;
 use division::LargestRemainderRule;
 use division::RunningCut;

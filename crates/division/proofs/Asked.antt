@@ -28,11 +28,13 @@ heavy-light (l ∷ ls) h (suc s) lt = heavy-light ls (or-parts _ _ h .1) s (omeg
 
 -- what no ground denies is a fair division
 pub fair : (z : ℤ) (ls : List ℕ) (n : ℕ) → firstOf (ruleGrounds z ls n) ≡ None → Fair (natAbs z) ls × (n ≡ length ls)
-fair z ls n h =
-    ( record {
-        small = grind (arith, tells);
-        some = grind (arith, tells);
-        few = grind (arith, tells);
-        light = heavy-light ls (grind (arith, tells));
-        busy = grind (arith, tells) }
-    , grind (arith, tells) )
+fair z ls n h = (
+  record {
+    small = grind (arith, tells);
+    some = grind (arith, tells);
+    few = grind (arith, tells);
+    light = heavy-light ls (grind (arith, tells));
+    busy = grind (arith, tells);
+  },
+  grind (arith, tells),
+)

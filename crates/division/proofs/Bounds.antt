@@ -7,7 +7,10 @@ use Rattle.std.specs.shelf.Lists.{sum}
 use Rattle.std.proofs.shelf.Elements.{all-from-getD}
 use Rattle.std.proofs.shelf.Sums.{sumBy-le, sumBy-take-le}
 use Rattle.std.proofs.shelf.Bits.{mul-le}
+use Rattle.figures.specs.declared.units.Load.{Load}
+use Rattle.division.specs.Columns.{tenths}
 use Rattle.division.specs.Rules.{Fair}
+use Rattle.division.proofs.Figures.{none, length-tenths, tenths-at}
 
 module _ (t : ℕ) (ls : List ℕ) (f : Fair t ls) where
   pub sum-le : sum ls ≤ 4800000
@@ -23,6 +26,10 @@ module _ (t : ℕ) (ls : List ℕ) (f : Fair t ls) where
   pub product-le : (x : ℕ) → x ≤ 4800000 → t * x ≤ 7200000000000000000
   product-le x h = mul-le t x 1500000000000 4800000 (f .small) h
 
-  -- the total by one seat's load
-  pub due-le : (s : ℕ) → s < length ls → t * getD ls s 0 ≤ 450000000000000000
-  due-le s lt = mul-le t (getD ls s 0) 1500000000000 300000 (f .small) (f .light s lt)
+-- one seat's load
+pub load-le : (t : ℕ) (loads : List Load) → Fair t (tenths loads) → (s : ℕ) → s < length loads → getD loads s none .0 ≤ 300000
+load-le t loads f s lt =
+    let n = length-tenths loads in
+    let a = tenths-at loads s lt in
+    let b = f .light s (omega arith) in
+    omega arith

@@ -38,9 +38,9 @@ module _ (t : ℕ) (ls : List ℕ) (p : 0 < sum ls) where
 
   cut-lawful : Lawful t ls (cutOf t ls)
   cut-lawful = record {
-      many = length-map-counting (cutAt t ls) 0 (length ls);
-      adds = sum-upTo (length ls) (omega arith) ∙ rw (take-all (length ls) ls (omega arith)) (mul-div-left t p);
-      near = λ s lt.
+    many = length-map-counting (cutAt t ls) 0 (length ls);
+    adds = sum-upTo (length ls) (omega arith) ∙ rw (take-all (length ls) ls (omega arith)) (mul-div-left t p);
+    near = λ s lt.
         (let g = getD-map-counting (cutAt t ls) 0 (length ls) s s 0 lt (omega arith) in
         let r = upTo-rises s lt in
         let n = sum ls in
@@ -48,12 +48,13 @@ module _ (t : ℕ) (ls : List ℕ) (p : 0 < sum ls) where
         let d = cutAt t ls s in
         let split : upTo t ls (s + 1) * n ≡ d * n + u * n = ap (λ (x : ℕ). x * n) (let q : upTo t ls (s + 1) ≡ d + u = omega arith in q) ∙ add-mul d u n in
         let e : t * sum (take (s + 1) ls) ≡ t * sum (take s ls) + t * getD ls s 0
-          = ap (λ (x : ℕ). t * x) (sumBy-more (λ x. x) ls s 0 lt) ∙ mul-add t (sum (take s ls)) (getD ls s 0) in
+        = ap (λ (x : ℕ). t * x) (sumBy-more (λ x. x) ls s 0 lt) ∙ mul-add t (sum (take s ls)) (getD ls s 0) in
         let a0 = div-mul-le-self (t * sum (take s ls)) n in
         let a1 = div-mul-le-self (t * sum (take (s + 1) ls)) n in
         let b0 = lt-div-mul-add {a = t * sum (take s ls)} p in
         let b1 = lt-div-mul-add {a = t * sum (take (s + 1) ls)} p in
-        rw g (omega arith)) }
+        rw g (omega arith));
+  }
 
 pub cut-keeps : (t : ℕ) (ls : List ℕ) → Fair t ls → Lawful t ls (cutOf t ls)
 cut-keeps t ls f = cut-lawful t ls (f .busy)

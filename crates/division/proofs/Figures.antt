@@ -26,7 +26,7 @@ pub tenths-at : (loads : List Load) (s : ℕ) → s < length loads → getD (ten
 tenths-at loads s lt = getD-map (λ (l : Load). l .0) loads s none 0 lt
 
 pub sum-more : (loads : List Load) (s : ℕ) → s < length loads
-  → sum (take (s + 1) (tenths loads)) ≡ sum (take s (tenths loads)) + getD loads s none .0
+    → sum (take (s + 1) (tenths loads)) ≡ sum (take s (tenths loads)) + getD loads s none .0
 sum-more loads s lt =
     let n = length-tenths loads in
     let e = sumBy-more (λ x. x) (tenths loads) s 0 (omega arith) in
@@ -38,8 +38,8 @@ nothing = record { 0 = pos 0 }
 
 -- a share column that holds f at each seat
 pub filled : (f : ℕ → ℕ) (out : List Cents) (n : ℕ) → length out ≡ n
-  → ((s : ℕ) → s < n → getD out s nothing ≡ record { 0 = pos (f s) })
-  → out ≡ centsOf (map pos (map f (counting 0 n)))
+    → ((s : ℕ) → s < n → getD out s nothing ≡ record { 0 = pos (f s) })
+    → out ≡ centsOf (map pos (map f (counting 0 n)))
 filled f out n len h =
     fill-by-all (λ (s : ℕ). record { 0 = pos (f s) }) out n nothing len h
     ∙ sym (ap centsOf (map-map pos f (counting 0 n)) ∙ map-map (λ (z : ℤ). record { 0 = z }) (λ s. pos (f s)) (counting 0 n))

@@ -58,8 +58,9 @@ module _ (t : ℕ) (ls : List ℕ) (p : 0 < sum ls) where
 
   cancel : (a b : ℕ) → a * sum ls ≤ b * sum ls → a ≤ b
   cancel a b h = elim (cases-lt b a) [
-      inl l ↦ absurd (let m = mul-le (b + 1) (sum ls) a (sum ls) (omega arith) (omega arith) in let e = add-mul b 1 (sum ls) in omega arith)
-      | inr g ↦ g ]
+    | inl l ↦ absurd (let m = mul-le (b + 1) (sum ls) a (sum ls) (omega arith) (omega arith) in let e = add-mul b 1 (sum ls) in omega arith)
+    | inr g ↦ g
+  ]
 
   -- the floors never pass the total, so that what is left over is exact
   pub floors-le : sumTo (floorAt t ls) (length ls) ≤ t
@@ -96,39 +97,39 @@ module _ (t : ℕ) (ls : List ℕ) (p : 0 < sum ls) where
   none-more : (s : ℕ) → s < length ls → restAt t ls s ≡ 0 → leftOver t ls ≤ ahead (restsOf t ls) s
   none-more s lt z =
       let b = sumTo-le (restAt t ls) (λ k. bit (stands (restsOf t ls) k s) * sum ls) (length ls) (λ k l.
-        let rk = rests-at k l in
-        let rs = rests-at s lt in
-        let u = rest-lt k in
-        elim (cases-lt 0 (restAt t ls k)) [
-          inl some ↦
+      let rk = rests-at k l in
+      let rs = rests-at s lt in
+      let u = rest-lt k in
+      elim (cases-lt 0 (restAt t ls k)) [
+        | inl some ↦
             let y : bit (stands (restsOf t ls) k s) ≡ 1 = ap bit (or-left _ _ (lt-ltb (getD (restsOf t ls) s 0) (getD (restsOf t ls) k 0) (omega arith))) in
             let m = ap (λ (x : ℕ). x * sum ls) y in
             omega arith
-          | inr no-rest ↦ omega arith ]) in
+        | inr no-rest ↦ omega arith
+      ]) in
       let a = ahead-is s in
       let m = ap (λ (x : ℕ). x * sum ls) a in
       let l = left-rests in
       let d = sumTo-times (λ k. bit (stands (restsOf t ls) k s)) (sum ls) (length ls) in
       cancel (leftOver t ls) (ahead (restsOf t ls) s) (omega arith)
 
-
   ahead-above : (s : ℕ) → length ls ≤ 16 → s < length ls → ahead (restsOf t ls) s ≡ above (keysOf t ls) (keyAt t ls s)
   ahead-above s few lt =
       ahead-is s
       ∙ (sumTo-same (λ k. bit (stands (restsOf t ls) k s)) (λ k. bit (ltb (keyAt t ls s) (keyAt t ls k))) (length ls) (λ k l. ap bit
-        (ap (λ (x : ℕ). ltb x (getD (restsOf t ls) k 0) || (eqb x (getD (restsOf t ls) k 0) && ltb k s)) (rests-at s lt)
-        ∙ (ap (λ (x : ℕ). ltb (restAt t ls s) x || (eqb (restAt t ls s) x && ltb k s)) (rests-at k l)
-        ∙ key-order (restAt t ls s) (restAt t ls k) k s (omega arith) (omega arith))))
+      (ap (λ (x : ℕ). ltb x (getD (restsOf t ls) k 0) || (eqb x (getD (restsOf t ls) k 0) && ltb k s)) (rests-at s lt)
+      ∙ (ap (λ (x : ℕ). ltb (restAt t ls s) x || (eqb (restAt t ls s) x && ltb k s)) (rests-at k l)
+      ∙ key-order (restAt t ls s) (restAt t ls k) k s (omega arith) (omega arith))))
       ∙ sym (count-places (λ y. ltb (keyAt t ls s) y) (keyAt t ls) (length ls)))
 
   -- as many seats have a cent more as cents are left
   extras : length ls ≤ 16 → sumTo (extraAt t ls) (length ls) ≡ leftOver t ls
   extras few =
       sumTo-same (extraAt t ls) (λ s. bit (ltb (above (keysOf t ls) (keyAt t ls s)) (leftOver t ls))) (length ls)
-        (λ s lt. ap (λ (x : ℕ). bit (ltb x (leftOver t ls))) (ahead-above s few lt))
+      (λ s lt. ap (λ (x : ℕ). bit (ltb x (leftOver t ls))) (ahead-above s few lt))
       ∙ (sym (count-places (λ z. ltb (above (keysOf t ls) z) (leftOver t ls)) (keyAt t ls) (length ls))
       ∙ ranked (keysOf t ls) (leftOver t ls) (different-made (keyAt t ls) 0 (length ls) (λ i j l u e. omega arith))
-        (let n = length-map-counting (keyAt t ls) 0 (length ls) in let l = left-le in omega arith))
+      (let n = length-map-counting (keyAt t ls) 0 (length ls) in let l = left-le in omega arith))
 
   near : (s : ℕ) → s < length ls → apart (t * getD ls s 0) (sum ls) (remainderAt t ls s) < sum ls
   near s lt =
@@ -136,21 +137,23 @@ module _ (t : ℕ) (ls : List ℕ) (p : 0 < sum ls) where
       let split = add-mul (floorAt t ls s) (extraAt t ls s) (sum ls) in
       let under = rest-lt s in
       elim (cases-lt (ahead (restsOf t ls) s) (leftOver t ls)) [
-        inl l ↦
-          let one : extraAt t ls s ≡ 1 = ap bit (lt-ltb (ahead (restsOf t ls) s) (leftOver t ls) l) in
-          let m = ap (λ (x : ℕ). x * sum ls) one in
-          let some : 0 < restAt t ls s = elim (cases-lt 0 (restAt t ls s)) [ inl y ↦ y | inr z ↦ absurd (let k = none-more s lt (omega arith) in omega arith) ] in
-          omega arith
+        | inl l ↦
+            let one : extraAt t ls s ≡ 1 = ap bit (lt-ltb (ahead (restsOf t ls) s) (leftOver t ls) l) in
+            let m = ap (λ (x : ℕ). x * sum ls) one in
+            let some : 0 < restAt t ls s = elim (cases-lt 0 (restAt t ls s)) [ inl y ↦ y | inr z ↦ absurd (let k = none-more s lt (omega arith) in omega arith) ] in
+            omega arith
         | inr g ↦
-          let none : extraAt t ls s ≡ 0 = ap bit (le-ltb (ahead (restsOf t ls) s) (leftOver t ls) g) in
-          let m = ap (λ (x : ℕ). x * sum ls) none in
-          omega arith ]
+            let none : extraAt t ls s ≡ 0 = ap bit (le-ltb (ahead (restsOf t ls) s) (leftOver t ls) g) in
+            let m = ap (λ (x : ℕ). x * sum ls) none in
+            omega arith
+      ]
 
 pub remainder-keeps : (t : ℕ) (ls : List ℕ) → Fair t ls → Lawful t ls (remainderOf t ls)
 remainder-keeps t ls f = record {
-    many = length-map-counting (remainderAt t ls) 0 (length ls);
-    adds = (let a = sumTo-plus (floorAt t ls) (extraAt t ls) (length ls) in
+  many = length-map-counting (remainderAt t ls) 0 (length ls);
+  adds = (let a = sumTo-plus (floorAt t ls) (extraAt t ls) (length ls) in
       let b = extras t ls (f .busy) (f .few) in
       let d = floors-le t ls (f .busy) in
       omega arith);
-    near = λ s lt. rw (getD-map-counting (remainderAt t ls) 0 (length ls) s s 0 lt (omega arith)) (near t ls (f .busy) s lt) }
+  near = λ s lt. rw (getD-map-counting (remainderAt t ls) 0 (length ls) s s 0 lt (omega arith)) (near t ls (f .busy) s lt);
+}

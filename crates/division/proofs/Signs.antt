@@ -62,12 +62,13 @@ off-down a b = omega (arith, ints)
 
 level : (ls : List ℕ) → Balanced (pos 0) ls (map (λ _. pos 0) ls)
 level ls = record {
-    many = length-map ls (λ (_ : ℕ). pos 0);
-    adds = sum-none ls;
-    near = λ s lt busy.
+  many = length-map ls (λ (_ : ℕ). pos 0);
+  adds = sum-none ls;
+  near = λ s lt busy.
       (let v = getD-map (λ (_ : ℕ). pos 0) ls s 0 (pos 0) lt in
       let e = ap (λ (y : ℤ). natAbs (y *ℤ pos (sum ls) -ℤ pos 0 *ℤ pos (getD ls s 0))) v ∙ off (0 * sum ls) (0 * getD ls s 0) in
-      omega arith) }
+      omega arith);
+}
 
 module _ (f : ℕ → List ℕ → List ℕ) (ls : List ℕ) (law : (t : ℕ) → Fair t ls → Lawful t ls (f t ls)) where
   up : (t : ℕ) → Fair t ls → Balanced (pos t) ls (map pos (f t ls))
@@ -77,11 +78,12 @@ module _ (f : ℕ → List ℕ → List ℕ) (ls : List ℕ) (law : (t : ℕ) �
         many = length-map (f t ls) pos ∙ l .many;
         adds = sum-up (pos 0) (f t ls) ∙ ap pos (let e : 0 + sum (f t ls) ≡ t = (let a = l .adds in omega arith) in e);
         near = λ s lt busy.
-          (let v = getD-map pos (f t ls) s 0 (pos 0) (let m = l .many in omega arith) in
-          let e : natAbs (getD (map pos (f t ls)) s (pos 0) *ℤ pos (sum ls) -ℤ pos t *ℤ pos (getD ls s 0)) ≡ apart (t * getD ls s 0) (sum ls) (getD (f t ls) s 0)
+            (let v = getD-map pos (f t ls) s 0 (pos 0) (let m = l .many in omega arith) in
+            let e : natAbs (getD (map pos (f t ls)) s (pos 0) *ℤ pos (sum ls) -ℤ pos t *ℤ pos (getD ls s 0)) ≡ apart (t * getD ls s 0) (sum ls) (getD (f t ls) s 0)
             = ap (λ (y : ℤ). natAbs (y *ℤ pos (sum ls) -ℤ pos t *ℤ pos (getD ls s 0))) v ∙ off (getD (f t ls) s 0 * sum ls) (t * getD ls s 0) in
-          let k = l .near s lt in
-          omega arith) }
+            let k = l .near s lt in
+            omega arith);
+      }
 
   down : (t : ℕ) → Fair t ls → Balanced (negℤ (pos t)) ls (map (λ x. negℤ (pos x)) (f t ls))
   down t h =
@@ -90,14 +92,15 @@ module _ (f : ℕ → List ℕ → List ℕ) (ls : List ℕ) (law : (t : ℕ) �
         many = length-map (f t ls) (λ (x : ℕ). negℤ (pos x)) ∙ l .many;
         adds = sum-down (pos 0) (f t ls) ∙ (let a = l .adds in omega (arith, ints));
         near = λ s lt busy.
-          (let v = getD-map (λ (x : ℕ). negℤ (pos x)) (f t ls) s 0 (pos 0) (let m = l .many in omega arith) in
-          let e : natAbs (getD (map (λ x. negℤ (pos x)) (f t ls)) s (pos 0) *ℤ pos (sum ls) -ℤ negℤ (pos t) *ℤ pos (getD ls s 0)) ≡ apart (t * getD ls s 0) (sum ls) (getD (f t ls) s 0)
+            (let v = getD-map (λ (x : ℕ). negℤ (pos x)) (f t ls) s 0 (pos 0) (let m = l .many in omega arith) in
+            let e : natAbs (getD (map (λ x. negℤ (pos x)) (f t ls)) s (pos 0) *ℤ pos (sum ls) -ℤ negℤ (pos t) *ℤ pos (getD ls s 0)) ≡ apart (t * getD ls s 0) (sum ls) (getD (f t ls) s 0)
             = ap (λ (y : ℤ). natAbs (y *ℤ pos (sum ls) -ℤ negℤ (pos t) *ℤ pos (getD ls s 0))) v
-              ∙ (ap (λ (y : ℤ). natAbs (y -ℤ negℤ (pos t) *ℤ pos (getD ls s 0))) (neg-mul (getD (f t ls) s 0) (sum ls))
-              ∙ (ap (λ (y : ℤ). natAbs (negℤ (pos (getD (f t ls) s 0 * sum ls)) -ℤ y)) (neg-mul t (getD ls s 0))
-              ∙ off-down (getD (f t ls) s 0 * sum ls) (t * getD ls s 0))) in
-          let k = l .near s lt in
-          omega arith) }
+            ∙ (ap (λ (y : ℤ). natAbs (y -ℤ negℤ (pos t) *ℤ pos (getD ls s 0))) (neg-mul (getD (f t ls) s 0) (sum ls))
+            ∙ (ap (λ (y : ℤ). natAbs (negℤ (pos (getD (f t ls) s 0 * sum ls)) -ℤ y)) (neg-mul t (getD ls s 0))
+            ∙ off-down (getD (f t ls) s 0 * sum ls) (t * getD ls s 0))) in
+            let k = l .near s lt in
+            omega arith);
+      }
 
   -- the shares of a signed total that no ground denies
   pub balanced : (z : ℤ) (n : ℕ) → firstOf (signedGrounds z ls n) ≡ None → Balanced z ls (signedShares f z ls)
@@ -108,26 +111,28 @@ module _ (f : ℕ → List ℕ → List ℕ) (ls : List ℕ) (law : (t : ℕ) �
   module _ (was : List Cents) where
     -- a call that was done, with the signed shares in its column
     pub done : (z : ℤ) (out : List Cents) → firstOf (signedGrounds z ls (length was)) ≡ None → out ≡ centsOf (signedShares f z ls)
-      → SignedDivided f z ls was (Ok tt) out
+        → SignedDivided f z ls was (Ok tt) out
     done z out h e = record {
-        judged = h;
-        column = e;
-        balanced = subst (λ (zs : List ℤ). Balanced z ls zs) (sym (ap amounts e ∙ amounts-cents (signedShares f z ls))) (balanced z (length was) h) }
+      judged = h;
+      column = e;
+      balanced = subst (λ (zs : List ℤ). Balanced z ls zs) (sym (ap amounts e ∙ amounts-cents (signedShares f z ls))) (balanced z (length was) h);
+    }
 
     -- an answer of the rule itself, where the total is above 0
     pub by-rule : (z : ℤ) (r : Result Unit DivisionFault) (out : List Cents) → pos 0 <ℤ z
-      → Divided (ruleGrounds z ls (length was)) (centsOf (map pos (f (natAbs z) ls))) was r out → SignedDivided f z ls was r out
+        → Divided (ruleGrounds z ls (length was)) (centsOf (map pos (f (natAbs z) ls))) was r out → SignedDivided f z ls was r out
     by-rule (pos zero) r out h d = absurd (omega (arith, ints))
     by-rule (pos (suc m)) (Ok u) out h d = done (pos (suc m)) out (size-grounds (pos (suc m)) ls (length was) (omega arith) ∙ d .judged) (d .column)
     by-rule (pos (suc m)) (Err e) out h d = record {
-        judged = size-grounds (pos (suc m)) ls (length was) (omega arith) ∙ d .judged;
-        column = d .column;
-        balanced = tt }
+      judged = size-grounds (pos (suc m)) ls (length was) (omega arith) ∙ d .judged;
+      column = d .column;
+      balanced = tt;
+    }
     by-rule (negsuc m) r out h d = absurd (omega (arith, ints))
 
     -- an answer to a total of 0
     pub by-zero : (z : ℤ) (r : Result Unit DivisionFault) (out : List Cents) → z ≡ pos 0
-      → Divided (signedGrounds (pos 0) ls (length was)) (centsOf (map (λ _. pos 0) ls)) was r out → SignedDivided f z ls was r out
+        → Divided (signedGrounds (pos 0) ls (length was)) (centsOf (map (λ _. pos 0) ls)) was r out → SignedDivided f z ls was r out
     by-zero (pos zero) (Ok u) out h d = done (pos 0) out (d .judged) (d .column)
     by-zero (pos zero) (Err e) out h d = record { judged = d .judged; column = d .column; balanced = tt }
     by-zero (pos (suc m)) r out h d = absurd (omega (arith, ints))
@@ -135,7 +140,7 @@ module _ (f : ℕ → List ℕ → List ℕ) (ls : List ℕ) (law : (t : ℕ) �
 
     -- the shares of the opposite m, negated
     pub by-opposite : (z m : ℤ) (parts out : List Cents) → z <ℤ pos 0 → m ≡ pos (natAbs z)
-      → Divided (ruleGrounds m ls (length was)) (centsOf (map pos (f (natAbs m) ls))) was (Ok tt) parts → out ≡ map negated parts → SignedDivided f z ls was (Ok tt) out
+        → Divided (ruleGrounds m ls (length was)) (centsOf (map pos (f (natAbs m) ls))) was (Ok tt) parts → out ≡ map negated parts → SignedDivided f z ls was (Ok tt) out
     by-opposite (pos n) m parts out h e d w = absurd (omega (arith, ints))
     by-opposite (negsuc n) m parts out h e d w =
         done (negsuc n) out

@@ -1,4 +1,5 @@
 pub mod Columns
+pub mod Limits
 pub mod Rules
 pub mod Cut
 pub mod Remainder

@@ -1,5 +1,5 @@
 -- What a rule that divides a total among seats by their loads owes. Assumes nothing.
---   heavy ls             some load is above 300,000
+--   heavy ls             some load is above its limit
 --   unfit ls n           the loads, or a share column of length n, are not what a division takes
 --   ruleGrounds z ls n   the grounds on which a rule denies the total z
 --   signedGrounds z ls n the same for the division of a signed total
@@ -24,29 +24,31 @@ use lib.Signed.{ltZ}
 use Rattle.std.specs.Iters.{folded}
 use Rattle.std.specs.Vec.{made}
 use Rattle.std.specs.shelf.Lists.{sum}
+use Rattle.std.specs.declared.option.Option.the-variants.{Some, None}
 use Rattle.std.specs.declared.result.Result.{Result}
 use Rattle.std.specs.declared.result.Result.the-variants.{Ok, Err}
-use Rattle.figures.specs.Grounds.{Judged}
+use Rattle.figures.specs.Grounds.{firstOf, Judged}
 use Rattle.figures.specs.Rounding.{apart}
 use Rattle.figures.specs.declared.grounds.Ground.{Ground}
 use Rattle.figures.specs.declared.grounds.Layer.the-variants.{Rule}
 use Rattle.figures.specs.declared.units.Cents.{Cents}
+use Rattle.division.specs.Limits.{maxTotal, maxSeats, maxLoad}
 use Rattle.division.specs.Columns.{centsOf, amounts}
 use Rattle.division.specs.declared.rules.DivisionFault.{DivisionFault}
 use Rattle.division.specs.declared.rules.DivisionFault.the-variants.{Beyond, NoLoad}
 
 abbrev pub heavy : List ℕ → Bool
 heavy [] = false
-heavy (l ∷ ls) = ltb 300000 l || heavy ls
+heavy (l ∷ ls) = ltb maxLoad l || heavy ls
 
 abbrev pub unfit : List ℕ → ℕ → Bool
-unfit ls n = eqb (length ls) 0 || (ltb 16 (length ls) || (heavy ls || not (eqb n (length ls))))
+unfit ls n = eqb (length ls) 0 || (ltb maxSeats (length ls) || (heavy ls || not (eqb n (length ls))))
 
 abbrev pub ruleGrounds : ℤ → List ℕ → ℕ → List (Bool × DivisionFault)
-ruleGrounds z ls n = (ltZ z (pos 0) || (ltb 1500000000000 (natAbs z) || unfit ls n), Beyond) ∷ (eqb (sum ls) 0, NoLoad) ∷ []
+ruleGrounds z ls n = (ltZ z (pos 0) || (ltb maxTotal (natAbs z) || unfit ls n), Beyond) ∷ (eqb (sum ls) 0, NoLoad) ∷ []
 
 abbrev pub signedGrounds : ℤ → List ℕ → ℕ → List (Bool × DivisionFault)
-signedGrounds z ls n = (ltb 1500000000000 (natAbs z) || unfit ls n, Beyond) ∷ (not (eqb (natAbs z) 0) && eqb (sum ls) 0, NoLoad) ∷ []
+signedGrounds z ls n = (ltb maxTotal (natAbs z) || unfit ls n, Beyond) ∷ (not (eqb (natAbs z) 0) && eqb (sum ls) 0, NoLoad) ∷ []
 
 abbrev pub groundOf : DivisionFault → Ground
 groundOf Beyond = record { number = 21; layer = Rule; place = 0 }
@@ -61,10 +63,10 @@ pub record Divided {F X : Type 0} (gs : List (Bool × F)) (new was : List X) (r 
   pub column : out ≡ after r new was
 
 pub record Fair (t : ℕ) (ls : List ℕ) : Type 0 where
-  pub small : t ≤ 1500000000000
+  pub small : t ≤ maxTotal
   pub some : 0 < length ls
-  pub few : length ls ≤ 16
-  pub light : (s : ℕ) → s < length ls → getD ls s 0 ≤ 300000
+  pub few : length ls ≤ maxSeats
+  pub light : (s : ℕ) → s < length ls → getD ls s 0 ≤ maxLoad
   pub busy : 0 < sum ls
 
 -- one share a seat; together the total; each less than a cent from total × load ÷ all loads
@@ -91,3 +93,20 @@ pub record SignedDivided (f : ℕ → List ℕ → List ℕ) (z : ℤ) (ls : Lis
   pub judged : Judged (signedGrounds z ls (length was)) r
   pub column : out ≡ after r (centsOf (signedShares f z ls)) was
   pub balanced : made r (λ _. Balanced z ls (amounts out))
+
+-- a column of two for two loads
+accepted : firstOf (ruleGrounds (pos 7) (0 ∷ 300000 ∷ []) 2) ≡ None
+accepted = refl
+
+too-heavy : firstOf (ruleGrounds (pos 7) (0 ∷ 300001 ∷ []) 2) ≡ Some Beyond
+too-heavy = refl
+
+no-load : firstOf (ruleGrounds (pos 7) (0 ∷ 0 ∷ []) 2) ≡ Some NoLoad
+no-load = refl
+
+-- a signed total may be below 0, and one of 0 needs no load
+owed : firstOf (signedGrounds (negsuc 6) (0 ∷ 1 ∷ []) 2) ≡ None
+owed = refl
+
+nothing : firstOf (signedGrounds (pos 0) (0 ∷ 0 ∷ []) 2) ≡ None
+nothing = refl

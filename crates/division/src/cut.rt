@@ -7,9 +7,9 @@ ghost use Rattle.std.specs.shelf.Lists.{sum};
 ghost use Rattle.division.specs.Columns.{tenths, centsOf};
 ghost use Rattle.division.specs.Rules.{Fair};
 ghost use Rattle.division.specs.Cut.{cutOf};
-use crate::rules::ready;
 use crate::rules::DivisionFault;
 use crate::rules::DivisionRule;
+use crate::rules::ready;
 use figures::Cents;
 use figures::Load;
 

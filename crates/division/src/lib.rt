@@ -3,6 +3,7 @@ pub mod cut;
 pub mod remainder;
 pub mod rules;
 pub mod signed;
+
 pub use cut::RunningCut;
 pub use cut::RunningCutRule;
 pub use remainder::LargestRemainder;

@@ -5,13 +5,14 @@ ghost use lib.IntN.{pos};
 ghost use lib.ListN.{length};
 ghost use Rattle.std.specs.Iters.{counting};
 ghost use Rattle.std.specs.shelf.Lists.{sum};
+ghost use Rattle.division.specs.Limits.{maxTotal, maxLoad};
 ghost use Rattle.division.specs.Columns.{tenths, centsOf};
 ghost use Rattle.division.specs.Rules.{Fair};
 ghost use Rattle.division.specs.Remainder.{floorAt, restsOf, leftOver, stands, ahead, remainderOf};
-use crate::rules::ready;
 use crate::rules::DivisionFault;
 use crate::rules::DivisionRule;
 use crate::rules::MAX_SEATS;
+use crate::rules::ready;
 use figures::Cents;
 use figures::Load;
 
@@ -71,7 +72,7 @@ fn write_rests(total: u64, loads: &[Load], all: u64, rests: &mut [u64]) -> u64
 {
     let mut given: u64 = 0;
     for s in 0..loads.len() {
-        let due = total * u64::from(loads[s].0);
+        let due = due_of(total, loads[s]);
         given += due / all;
         rests[s] = due % all;
     }
@@ -89,10 +90,20 @@ fn write_shares(total: u64, loads: &[Load], all: u64, left: u64, rests: &[u64], 
     ensures { λ _. ⌜ now (out .exit) ≡ centsOf (map pos (remainderOf total (tenths (now (loads .entry))))) ⌝ }
 {
     for s in 0..loads.len() {
-        let floor = total * u64::from(loads[s].0) / all;
+        let floor = due_of(total, loads[s]) / all;
         let extra = u64::from(ahead_of(rests, s) < left);
         out[s] = Cents((floor + extra) as i64);
     }
+}
+
+// What is due to a load, before it is divided by all loads.
+fn due_of(total: u64, load: Load) -> u64
+    requires total { ⌜ total ≤ maxTotal ⌝ }
+    requires load { ⌜ load .0 ≤ maxLoad ⌝ }
+    ensures value { λ r. ⌜ r ≡ total * load .0 ⌝ }
+    ensures small { λ r. ⌜ r ≤ 450000000000000000 ⌝ }
+{
+    total * u64::from(load.0)
 }
 
 // How many seats stand before seat s.

@@ -36,8 +36,16 @@ impl DivisionFault {
         ensures { λ r. ⌜ r ≡ groundOf self ⌝ }
     {
         match self {
-            DivisionFault::Beyond => Ground { number: 21, layer: Layer::Rule, place: 0 },
-            DivisionFault::NoLoad => Ground { number: 22, layer: Layer::Rule, place: 0 },
+            DivisionFault::Beyond => Ground {
+                number: 21,
+                layer: Layer::Rule,
+                place: 0,
+            },
+            DivisionFault::NoLoad => Ground {
+                number: 22,
+                layer: Layer::Rule,
+                place: 0,
+            },
         }
     }
 }

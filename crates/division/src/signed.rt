@@ -6,16 +6,21 @@ ghost use lib.ListN.{length, getD};
 ghost use lib.Signed.{_≤ℤ_};
 ghost use Rattle.division.specs.Columns.{tenths, centsOf, negated};
 ghost use Rattle.division.specs.Rules.{signedGrounds, Divided, SignedDivided};
-use crate::rules::sum_if_fit;
 use crate::rules::DivisionFault;
 use crate::rules::DivisionRule;
 use crate::rules::MAX_TOTAL;
+use crate::rules::sum_if_fit;
 use figures::Cents;
 use figures::Load;
 
 // Divides a signed total by any rule: a negative one as its opposite, every share negated; a total of 0 gives every
-// seat 0, whatever the loads.
-pub fn divide_signed<R: DivisionRule>(rule: &R, total: Cents, loads: &[Load], out: &mut [Cents]) -> Result<(), DivisionFault>
+// seat 0, and then the loads may all be 0.
+pub fn divide_signed<R: DivisionRule>(
+    rule: &R,
+    total: Cents,
+    loads: &[Load],
+    out: &mut [Cents],
+) -> Result<(), DivisionFault>
     ensures { λ r. ⌜ SignedDivided (R·DivisionRule .shares (now (rule .entry))) (total .0) (tenths (now (loads .entry))) (now (out .entry)) r (now (out .exit)) ⌝ }
 {
     if total.0 < -MAX_TOTAL || total.0 > MAX_TOTAL {

@@ -22,7 +22,9 @@ nearest n d p m =
     let low = div-mul-le-self (2 * n + d) (2 * d) in
     let high = lt-div-mul-add {a = 2 * n + d} {b = 2 * d} (omega arith) in
     elim (cases-order m r) [
-      inl e ↦ let q = ap (λ (x : ℕ). x * d) e in (omega arith, λ _. omega arith)
+      | inl e ↦ let q = ap (λ (x : ℕ). x * d) e in (omega arith, λ _. omega arith)
       | inr o ↦ elim o [
-        inl l ↦ let s = step m r d l in (omega arith, λ _. omega arith)
-        | inr g ↦ let s = step r m d g in (omega arith, λ h. omega arith) ] ]
+        | inl l ↦ let s = step m r d l in (omega arith, λ _. omega arith)
+        | inr g ↦ let s = step r m d g in (omega arith, λ h. omega arith)
+      ]
+    ]

@@ -2,7 +2,7 @@
 --   letterOf l    the letter that stands for a layer
 --   firstOf gs    the fault of the first ground that is met, in the order of the list
 --   Judged gs r   the answer r is what the grounds gs call for: a denial by the first one met, and else none
-use mathlib.Core.Path.{_≡_}
+use mathlib.Core.Path.{_≡_, refl}
 use mathlib.Core.Bool.{Bool, true, false, cond}
 use mathlib.Core.List.{List, [], _∷_}
 use Prim.Native.Nat.{ℕ}
@@ -28,3 +28,7 @@ firstOf (g ∷ gs) = cond (g .0) (Some (g .1)) (firstOf gs)
 abbrev pub Judged : {T F : Type 0} → List (Bool × F) → Result T F → Type 0
 Judged gs (Ok x) = firstOf gs ≡ None
 Judged gs (Err e) = firstOf gs ≡ Some e
+
+-- the first ground that is met, and not a later one
+second : firstOf {F = ℕ} ((false, 1) ∷ (true, 2) ∷ (true, 3) ∷ []) ≡ Some 2
+second = refl

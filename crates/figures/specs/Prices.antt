@@ -1,15 +1,16 @@
 -- The terms of a month, and what a kilowatt earns or costs under them. Assumes nothing.
---   beyond f         a term lies beyond its limit
+--   beyond f         a term lies beyond its limit; a month has at least one hour
 --   termGrounds f    the grounds on which terms are denied
 --   groundOf e       number, layer and place of a fault in the terms
 --   netOf f p        the net price of product p, in cents for a MW and month
 --   creditOf f p k   the credit in cents for k kW of product p in one hour
 --   penaltyOf f p k  the penalty in cents for k failed kW of product p in one hour
 use mathlib.Core.Path.{_≡_, refl}
-use mathlib.Core.Bool.{Bool, cond, _||_}
+use mathlib.Core.Bool.{Bool, false, cond, _||_}
 use mathlib.Core.List.{List, [], _∷_}
 use Prim.Native.Nat.{ℕ, _-_, _*_}
 use lib.Dec.{eqb, ltb}
+use Rattle.figures.specs.Limits.{maxHours, maxPrice, maxFactor}
 use Rattle.figures.specs.Rounding.{rounded}
 use Rattle.figures.specs.declared.grounds.Ground.{Ground}
 use Rattle.figures.specs.declared.grounds.Layer.the-variants.{Month}
@@ -17,9 +18,8 @@ use Rattle.figures.specs.declared.prices.TermFigures.{TermFigures}
 use Rattle.figures.specs.declared.prices.TermsFault.{TermsFault}
 use Rattle.figures.specs.declared.prices.TermsFault.the-variants.{Beyond}
 
--- 1 to 744 hours, prices of at most 2,000,000 cents, a factor of at most 500 hundredths
 abbrev pub beyond : TermFigures → Bool
-beyond f = eqb (f .hours) 0 || (ltb 744 (f .hours) || (ltb 2000000 (f .tmnsr .0) || (ltb 2000000 (f .tmor .0) || (ltb 2000000 (f .capacity .0) || ltb 500 (f .factor .0)))))
+beyond f = eqb (f .hours) 0 || (ltb maxHours (f .hours) || (ltb maxPrice (f .tmnsr .0) || (ltb maxPrice (f .tmor .0) || (ltb maxPrice (f .capacity .0) || ltb maxFactor (f .factor .0)))))
 
 abbrev pub termGrounds : TermFigures → List (Bool × TermsFault)
 termGrounds f = (beyond f, Beyond) ∷ []
@@ -40,3 +40,23 @@ creditOf f p k = rounded (k * netOf f p) (1000 * f .hours)
 
 abbrev pub penaltyOf : TermFigures → ℕ → ℕ → ℕ
 penaltyOf f p k = rounded (k * netOf f p * f .factor .0) (100000 * f .hours)
+
+-- one hour, clearing prices 3,000 and 1,000, capacity price 2,000, penalty factor 2.50
+abbrev example : TermFigures
+example = record { hours = 1; tmnsr = record { 0 = 3000 }; tmor = record { 0 = 1000 }; capacity = record { 0 = 2000 }; factor = record { 0 = 250 } }
+
+within : beyond example ≡ false
+within = refl
+
+net : netOf example 0 ≡ 1000
+net = refl
+
+never-below : netOf example 1 ≡ 0
+never-below = refl
+
+-- a cent a kW, and two and a half
+credit : creditOf example 0 7 ≡ 7
+credit = refl
+
+penalty : penaltyOf example 0 7 ≡ 18
+penalty = refl

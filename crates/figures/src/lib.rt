@@ -2,6 +2,7 @@
 pub mod grounds;
 pub mod prices;
 pub mod units;
+
 pub use grounds::Ground;
 pub use grounds::Layer;
 pub use prices::MAX_FACTOR;

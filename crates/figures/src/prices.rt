@@ -10,13 +10,13 @@ use crate::grounds::Ground;
 use crate::grounds::Layer;
 use crate::units::Cents;
 use crate::units::Factor;
-use crate::units::Kw;
-use crate::units::Price;
-use crate::units::Product;
 use crate::units::FactorDebug;
 use crate::units::FactorPartialEq;
+use crate::units::Kw;
+use crate::units::Price;
 use crate::units::PriceDebug;
 use crate::units::PricePartialEq;
+use crate::units::Product;
 
 // The most delivery hours a month has.
 pub const MAX_HOURS: u16 = 744;
@@ -49,7 +49,11 @@ impl TermsFault {
         ensures { λ r. ⌜ r ≡ groundOf self ⌝ }
     {
         match self {
-            TermsFault::Beyond => Ground { number: 5, layer: Layer::Month, place: 0 },
+            TermsFault::Beyond => Ground {
+                number: 5,
+                layer: Layer::Month,
+                place: 0,
+            },
         }
     }
 }
@@ -80,7 +84,10 @@ impl Terms {
         if figures.hours == 0 || figures.hours > MAX_HOURS {
             return Err(TermsFault::Beyond);
         }
-        if figures.tmnsr.0 > MAX_PRICE || figures.tmor.0 > MAX_PRICE || figures.capacity.0 > MAX_PRICE {
+        if figures.tmnsr.0 > MAX_PRICE
+            || figures.tmor.0 > MAX_PRICE
+            || figures.capacity.0 > MAX_PRICE
+        {
             return Err(TermsFault::Beyond);
         }
         if figures.factor.0 > MAX_FACTOR {
@@ -124,7 +131,9 @@ impl Terms {
         ensures nearest { λ r. ⌜ Nearest (failed .0 * netOf (now (self .entry) .figures) (product .0) * now (self .entry) .figures .factor .0) (100000 * now (self .entry) .figures .hours) (natAbs (r .0)) ⌝ }
     {
         let share = 100_000 * u64::from(self.figures.hours);
-        let amount = u64::from(failed.0) * u64::from(self.net(product).0) * u64::from(self.figures.factor.0);
+        let amount = u64::from(failed.0)
+            * u64::from(self.net(product).0)
+            * u64::from(self.figures.factor.0);
         rounded_cents(amount, share)
     }
 }

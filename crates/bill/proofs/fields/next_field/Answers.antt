@@ -19,7 +19,7 @@ split-at-requires-2 c κs = omega (arith, leading-le-length filled (c .split-at 
 opens : (c : After-split-at) → Opened (c .args .line .now) (c .split-at .result .1 .now)
 opens c =
     subst (Opened (c .args .line .now))
-    (ap (λ (k : ℕ). drop k (c .args .line .now)) (sym (c .blank-len .ensures)) ∙ sym (c .split-at .ensures .back))
+    (ap (λ (k : ℕ). drop k (c .args .line .now)) (sym (c .run-len .ensures)) ∙ sym (c .split-at .ensures .back))
     (opened (c .args .line .now))
 
 pub returns-then-is-empty : need.returns-then-is-empty

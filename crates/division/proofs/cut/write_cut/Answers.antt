@@ -24,7 +24,7 @@ ran : (c : need.After-from-run) → c .loop-s .run + c .from-run .result ≡ sum
 ran c = let e = sum-more (c .args .loads .now) (c .loop-s .s) (c .loop-s-test .taken) in omega arith
 
 reached : (c : need.After-from-run)
-  → c .args .total * (c .loop-s .run + c .from-run .result) / c .args .all ≡ upTo (c .args .total) (tenths (c .args .loads .now)) (c .loop-s .s + 1)
+    → c .args .total * (c .loop-s .run + c .from-run .result) / c .args .all ≡ upTo (c .args .total) (tenths (c .args .loads .now)) (c .loop-s .s + 1)
 reached c = let e = ran c in let a = c .pre .all in cc
 
 bound : (c : need.After-from-run) → c .loop-s .run + c .from-run .result ≤ 4800000
@@ -37,14 +37,14 @@ product : (c : need.After-from-run) → c .args .total * (c .loop-s .run + c .fr
 product c = product-le (c .args .total) (tenths (c .args .loads .now)) (c .pre .fair) (c .loop-s .run + c .from-run .result) (bound c)
 
 small : (c : need.After-from-run)
-  → c .args .total * (c .loop-s .run + c .from-run .result) / c .args .all - c .loop-s .paid ≤ 7200000000000000000
+    → c .args .total * (c .loop-s .run + c .from-run .result) / c .args .all - c .loop-s .paid ≤ 7200000000000000000
 small c =
     let p = product c in
     let d = div-le-self (c .args .total * (c .loop-s .run + c .from-run .result)) (c .args .all) in
     omega arith
 
 rises : (c : need.After-from-run)
-  → c .loop-s .paid ≤ c .args .total * (c .loop-s .run + c .from-run .result) / c .args .all
+    → c .loop-s .paid ≤ c .args .total * (c .loop-s .run + c .from-run .result) / c .args .all
 rises c =
     let n = length-tenths (c .args .loads .now) in
     let q = reached c in
@@ -70,12 +70,13 @@ loop-s-again c =
     let z : toZ w64 v ≡ pos v = omega (arith, ints) in
     let q = reached c in
     let lt : c .loop-s .s < length (c .loop-s .out) = omega arith in
-    let here : v ≡ cutAt (c .args .total) (tenths (c .args .loads .now)) (c .loop-s .s) = omega arith in
-    ( ran c
-    , q
-    , below-more _ _
-        (λ k h. let ne : k ≢ c .loop-s .s = omega arith in rw getD-set-other (c .loop-s .inv .2 k h))
-        (rw getD-set-same (ap (λ (x : ℤ). record { 0 = x }) (z ∙ ap pos here))) )
+    let here : v ≡ cutAt (c .args .total) (tenths (c .args .loads .now)) (c .loop-s .s) = omega arith in (
+      ran c,
+      q,
+      below-more _ _
+          (λ k h. let ne : k ≢ c .loop-s .s = omega arith in rw getD-set-other (c .loop-s .inv .2 k h))
+          (rw getD-set-same (ap (λ (x : ℤ). record { 0 = x }) (z ∙ ap pos here))),
+    )
 
 pub returns : need.returns
 returns c =

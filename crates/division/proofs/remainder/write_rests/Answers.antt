@@ -12,28 +12,17 @@ use Rattle.std.specs.shelf.Lists.{sum}
 use Rattle.std.proofs.shelf.Counted.{fill-by-all, sumBy-map-counting-more}
 use Rattle.division.specs.Columns.{tenths}
 use Rattle.division.specs.Remainder.{floorAt, restAt}
-use Rattle.division.proofs.Bounds.{due-le}
+use Rattle.division.proofs.Bounds.{load-le}
 use Rattle.division.proofs.Figures.{length-tenths, tenths-at}
 use Rattle.division.proofs.remainder.write_rests.Needs as need
 
--- what is due to this seat, before it is divided
-due : (c : need.After-from) → c .args .total * c .from .result ≡ c .args .total * getD (tenths (c .args .loads .now)) (c .loop-s .s) 0
-due c = let a = tenths-at (c .args .loads .now) (c .loop-s .s) (c .loop-s-test .taken) in let r = c .from .ensures in ap (λ (x : ℕ). c .args .total * x) (omega arith)
-
-small : (c : need.After-from) → c .args .total * c .from .result ≤ 450000000000000000
-small c =
-    let n = length-tenths (c .args .loads .now) in
-    let e = due c in
-    let b = due-le (c .args .total) (tenths (c .args .loads .now)) (c .pre .fair) (c .loop-s .s) (omega arith) in
-    omega arith
-
-pub mul-due : need.mul-due
-mul-due c = let s = small c in omega arith
+pub due-of-due-requires : need.due-of-due-requires
+due-of-due-requires c κs = record { total = c .pre .fair .small; load = load-le (c .args .total) (c .args .loads .now) (c .pre .fair) (c .loop-s .s) (c .loop-s-test .taken) }
 
 pub add-given : need.add-given
 add-given c =
-    let s = small c in
-    let d = div-le-self (c .args .total * c .from .result) (c .args .all) in
+    let s = c .due-of-due .ensures .small in
+    let d = div-le-self (c .due-of-due .result) (c .args .all) in
     let f = c .pre .fair .few in
     let n = length-tenths (c .args .loads .now) in
     omega arith
@@ -43,19 +32,21 @@ loop-s-again c =
     let t = c .args .total in
     let ls = tenths (c .args .loads .now) in
     let i = c .loop-s .s in
-    let s = small c in
-    let d = div-le-self (t * c .from .result) (c .args .all) in
+    let due = c .due-of-due .result in
+    let s = c .due-of-due .ensures .small in
+    let d = div-le-self due (c .args .all) in
     let m = sumBy-map-counting-more (λ x. x) (floorAt t ls) 0 i i (omega arith) in
-    let e = due c in
+    let e : due ≡ t * getD ls i 0 = c .due-of-due .ensures .value ∙ ap (λ (x : ℕ). t * x) (sym (tenths-at (c .args .loads .now) i (c .loop-s-test .taken))) in
     let a = c .pre .all in
-    let f : t * c .from .result / c .args .all ≡ floorAt t ls i = cc in
-    let g : t * c .from .result % c .args .all ≡ restAt t ls i = cc in
-    let lt : i < length (c .loop-s .rests) = omega arith in
-    ( omega arith
-    , omega arith
-    , below-more _ _
-        (λ k h. let ne : k ≢ i = omega arith in rw getD-set-other (c .loop-s .inv .2 k h))
-        (rw getD-set-same g) )
+    let f : due / c .args .all ≡ floorAt t ls i = cc in
+    let g : due % c .args .all ≡ restAt t ls i = cc in
+    let lt : i < length (c .loop-s .rests) = omega arith in (
+      omega arith,
+      omega arith,
+      below-more _ _
+          (λ k h. let ne : k ≢ i = omega arith in rw getD-set-other (c .loop-s .inv .2 k h))
+          (rw getD-set-same g),
+    )
 
 pub returns : need.returns
 returns c =
@@ -65,4 +56,5 @@ returns c =
     let e : c .loop-s .s ≡ length ls = omega arith in
     record {
       sum = c .loop-s .inv .0 ∙ ap (λ (x : ℕ). sum (map (floorAt t ls) (counting 0 x))) e;
-      rests = fill-by-all (restAt t ls) (c .loop-s .rests) (length ls) 0 (omega arith) (λ k h. c .loop-s .inv .2 k (omega arith)) }
+      rests = fill-by-all (restAt t ls) (c .loop-s .rests) (length ls) 0 (omega arith) (λ k h. c .loop-s .inv .2 k (omega arith));
+    }

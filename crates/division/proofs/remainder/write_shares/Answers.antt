@@ -1,5 +1,5 @@
 use borrow.Author.Count.{below-more}
-use mathlib.Core.Path.{_≡_, ap, _∙_}
+use mathlib.Core.Path.{_≡_, sym, ap, _∙_}
 use mathlib.Core.Logic.{_≢_}
 use mathlib.Core.Bool.{Bool}
 use mathlib.Core.List.{List}
@@ -15,24 +15,13 @@ use mir.Syntax.{w64}
 use Rattle.std.proofs.shelf.Signed.{ints}
 use Rattle.division.specs.Columns.{tenths}
 use Rattle.division.specs.Remainder.{floorAt, restsOf, leftOver, ahead, extraAt, remainderAt}
-use Rattle.division.proofs.Bounds.{due-le}
+use Rattle.division.proofs.Bounds.{load-le}
 use Rattle.division.proofs.Figures.{length-tenths, tenths-at, filled}
 use Rattle.division.proofs.SeatSums.{bit, boolByte-is, bit-le}
 use Rattle.division.proofs.remainder.write_shares.Needs as need
 
--- what is due to this seat, before it is divided
-due : (c : need.After-from) → c .args .total * c .from .result ≡ c .args .total * getD (tenths (c .args .loads .now)) (c .loop-s .s) 0
-due c = let a = tenths-at (c .args .loads .now) (c .loop-s .s) (c .loop-s-test .taken) in let r = c .from .ensures in ap (λ (x : ℕ). c .args .total * x) (omega arith)
-
-due-small : (c : need.After-from) → c .args .total * c .from .result ≤ 450000000000000000
-due-small c =
-    let n = length-tenths (c .args .loads .now) in
-    let e = due c in
-    let b = due-le (c .args .total) (tenths (c .args .loads .now)) (c .pre .fair) (c .loop-s .s) (omega arith) in
-    omega arith
-
-pub mul-floor : need.mul-floor
-mul-floor c = let s = due-small c in omega arith
+pub due-of-requires : need.due-of-requires
+due-of-requires c κs = record { total = c .pre .fair .small; load = load-le (c .args .total) (c .args .loads .now) (c .pre .fair) (c .loop-s .s) (c .loop-s-test .taken) }
 
 -- one cent more, or none
 extra : (c : need.After-from-extra) → c .from-extra .result ≡ extraAt (c .args .total) (tenths (c .args .loads .now)) (c .loop-s .s)
@@ -44,13 +33,10 @@ extra c =
     ∙ (ap (λ (n : ℕ). bit (ltb n (c .args .left))) (c .ahead-of .ensures ∙ ap (λ (rs : List ℕ). ahead rs (c .loop-s .s)) (c .pre .rests))
     ∙ ap (λ (n : ℕ). bit (ltb (ahead (restsOf t ls) (c .loop-s .s)) n)) (c .pre .left)))
 
-share-small : (c : need.After-from-extra) → c .args .total * c .from .result / c .args .all + c .from-extra .result ≤ 450000000000000001
+share-small : (c : need.After-from-extra) → c .due-of .result / c .args .all + c .from-extra .result ≤ 450000000000000001
 share-small c =
-    let n = length-tenths (c .args .loads .now) in
-    let b = due-le (c .args .total) (tenths (c .args .loads .now)) (c .pre .fair) (c .loop-s .s) (omega arith) in
-    let a = tenths-at (c .args .loads .now) (c .loop-s .s) (c .loop-s-test .taken) in
-    let e = ap (λ (x : ℕ). c .args .total * x) (let q : c .from .result ≡ getD (tenths (c .args .loads .now)) (c .loop-s .s) 0 = omega arith in q) in
-    let d = div-le-self (c .args .total * c .from .result) (c .args .all) in
+    let b = c .due-of .ensures .small in
+    let d = div-le-self (c .due-of .result) (c .args .all) in
     let o = c .from-extra .ensures ∙ boolByte-is (ltb (c .ahead-of .result) (c .args .left)) in
     let l = bit-le (ltb (c .ahead-of .result) (c .args .left)) in
     omega arith
@@ -66,13 +52,12 @@ loop-s-again c =
     let t = c .args .total in
     let ls = tenths (c .args .loads .now) in
     let i = c .loop-s .s in
-    let v = t * c .from .result / c .args .all + c .from-extra .result in
+    let v = c .due-of .result / c .args .all + c .from-extra .result in
     let s = share-small c in
     let z : toZ w64 v ≡ pos v = omega (arith, ints) in
-    let a = tenths-at (c .args .loads .now) i (c .loop-s-test .taken) in
-    let r : c .from .result ≡ getD ls i 0 = omega arith in
+    let r : c .due-of .result ≡ t * getD ls i 0 = c .due-of .ensures .value ∙ ap (λ (x : ℕ). t * x) (sym (tenths-at (c .args .loads .now) i (c .loop-s-test .taken))) in
     let all = c .pre .all in
-    let f : t * c .from .result / c .args .all ≡ floorAt t ls i = cc in
+    let f : c .due-of .result / c .args .all ≡ floorAt t ls i = cc in
     let e = extra c in
     let here : v ≡ remainderAt t ls i = cc in
     let lt : i < length (c .loop-s .out) = omega arith in

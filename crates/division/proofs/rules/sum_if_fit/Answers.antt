@@ -37,6 +37,7 @@ pub returns : need.returns
 returns c =
     let loads = c .args .loads .now in
     let n = length-tenths loads in
-    let h = light-heavy (tenths loads) (λ s lt. c .loop-load .inv .2 s (omega arith)) in
-    ( grind (arith, tells)
-    , c .loop-load .inv .0 ∙ ap sum (take-all (c .loop-load .load-index) (tenths loads) (omega arith)) )
+    let h = light-heavy (tenths loads) (λ s lt. c .loop-load .inv .2 s (omega arith)) in (
+      grind (arith, tells),
+      c .loop-load .inv .0 ∙ ap sum (take-all (c .loop-load .load-index) (tenths loads) (omega arith)),
+    )

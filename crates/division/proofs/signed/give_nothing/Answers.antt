@@ -26,6 +26,7 @@ returns c =
     record {
       judged = grind (arith, tells);
       column =
-        all-written (λ _. nothing) (c .args .out .now) (c .loop-share .out) (c .loop-share .share-index) (c .loop-share-test .left) (c .loop-share .inv)
-        ∙ (same-constant nothing (c .args .out .now) (tenths (c .args .loads .now)) l
-        ∙ sym (map-map (λ (z : ℤ). record { 0 = z }) (λ (_ : ℕ). pos 0) (tenths (c .args .loads .now)))) }
+          all-written (λ _. nothing) (c .args .out .now) (c .loop-share .out) (c .loop-share .share-index) (c .loop-share-test .left) (c .loop-share .inv)
+          ∙ (same-constant nothing (c .args .out .now) (tenths (c .args .loads .now)) l
+          ∙ sym (map-map (λ (z : ℤ). record { 0 = z }) (λ (_ : ℕ). pos 0) (tenths (c .args .loads .now))));
+    }

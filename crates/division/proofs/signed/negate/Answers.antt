@@ -32,7 +32,7 @@ loop-share-again c =
     let v : toZ w64 (ofZ w64 (pos 0 -ℤ toZ w64 (ofZ w64 (x .0)))) ≡ negℤ (x .0) = omega (arith, ints) in
     ap (λ (z : ℤ). set (c .loop-share .out) i (record { 0 = z })) v
     ∙ map-over-more negated (c .args .out .now) (c .loop-share .out) i x (c .loop-share-test .taken) (c .loop-share .inv)
-      (getD-default (c .loop-share .out) i nothing x (omega arith))
+    (getD-default (c .loop-share .out) i nothing x (omega arith))
 
 pub returns : need.returns
 returns c = all-written negated (c .args .out .now) (c .loop-share .out) (c .loop-share .share-index) (c .loop-share-test .left) (c .loop-share .inv)

@@ -22,4 +22,5 @@ returns c =
     let z : toZ w64 (rounded (c .args .n) (c .args .d)) ≡ pos (rounded (c .args .n) (c .args .d)) = omega (arith, ints) in
     record {
       value = z;
-      nearest = subst (λ (x : ℤ). Nearest (c .args .n) (c .args .d) (natAbs x)) (sym z) (nearest (c .args .n) (c .args .d) (c .pre .some)) }
+      nearest = subst (λ (x : ℤ). Nearest (c .args .n) (c .args .d) (natAbs x)) (sym z) (nearest (c .args .n) (c .args .d) (c .pre .some));
+    }

@@ -24,4 +24,4 @@ returns c =
     let fits : SFits w64 z = search needs in
     subst (λ (y : ℤ). Billed (fieldsOf (c .args .line .now)) y (tenths (vec-items (c .in-Continue-loads .loads)))) (sym (toZ-ofZ w64 z fits))
     (billed (fieldsOf (c .args .line .now)) (vec-items (c .in-Continue-figures .figures)) z (c .in-Some .rest .now) (tenths (vec-items (c .in-Continue-loads .loads)))
-      (c .in-Continue-figures .ensures tt) (sym (c .as-slice .ensures .value) ∙ c .in-Some .ensures tt .cases .0) (c .in-Continue-loads .ensures tt))
+    (c .in-Continue-figures .ensures tt) (sym (c .as-slice .ensures .value) ∙ c .in-Some .ensures tt .cases .0) (c .in-Continue-loads .ensures tt))

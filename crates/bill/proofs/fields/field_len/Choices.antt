@@ -1,9 +1,0 @@
-use mathlib.Core.Path.{_≡_}
-use Prim.Native.Nat.{_+_}
-use lib.ListN.{drop}
-use Rattle.std.specs.shelf.Lists.{leading}
-use Rattle.bill.proofs.Cuts.{filled}
-use Rattle.bill.proofs.fields.field_len.Given as given
-
-abbrev pub Inv-loop-i : given.InvT-loop-i
-Inv-loop-i l = l .i + leading filled (drop (l .i) (l .line)) ≡ leading filled (l .line)
