@@ -14,7 +14,7 @@ use figures::Cents;
 use figures::Load;
 
 // Seat s gets total × (loads 0 to s) ÷ all loads, rounded down, less the same figure for the seats before it.
-#[derive(Clone, Copy, PartialEq, Eq, Debug)]
+#[derive(Clone, Copy)]
 pub struct RunningCut;
 
 pub impl DivisionRule for RunningCut as RunningCutRule {

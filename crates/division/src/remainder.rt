@@ -17,7 +17,7 @@ use figures::Cents;
 use figures::Load;
 
 // Every share rounded down, then one cent each to the seats of largest remainder, ties to the lower seat.
-#[derive(Clone, Copy, PartialEq, Eq, Debug)]
+#[derive(Clone, Copy)]
 pub struct LargestRemainder;
 
 pub impl DivisionRule for LargestRemainder as LargestRemainderRule {

@@ -65,7 +65,17 @@ pub struct Terms {
     ghost within: { beyond figures ≡ false },
 }
 
-// n ÷ d cents, to the nearest whole cent, an exact half upward.
+// n ÷ d to the nearest whole number, an exact half upward.
+fn half_up(n: u64, d: u64) -> u64
+    requires some { ⌜ 0 < d ⌝ }
+    requires amount { ⌜ n < 2 ^ 62 ⌝ }
+    requires share { ⌜ d < 2 ^ 32 ⌝ }
+    ensures { λ r. ⌜ r ≡ rounded n d ⌝ }
+{
+    (2 * n + d) / (2 * d)
+}
+
+// The same in cents.
 fn rounded_cents(n: u64, d: u64) -> Cents
     requires some { ⌜ 0 < d ⌝ }
     requires amount { ⌜ n < 2 ^ 62 ⌝ }
@@ -73,7 +83,7 @@ fn rounded_cents(n: u64, d: u64) -> Cents
     ensures value { λ r. ⌜ r .0 ≡ pos (rounded n d) ⌝ }
     ensures nearest { λ r. ⌜ Nearest n d (natAbs (r .0)) ⌝ }
 {
-    Cents(((2 * n + d) / (2 * d)) as i64)
+    Cents(half_up(n, d) as i64)
 }
 
 impl Terms {
@@ -94,13 +104,6 @@ impl Terms {
             return Err(TermsFault::Beyond);
         }
         Ok(Terms { figures })
-    }
-
-    // The terms as they were given.
-    pub fn figures(&self) -> TermFigures
-        ensures { λ r. ⌜ r ≡ now (self .entry) .figures ⌝ }
-    {
-        self.figures
     }
 
     // The clearing price less the capacity price, never below 0. A product that is neither 0 nor 1 has no price.

@@ -19,7 +19,7 @@ cast-result c = let s = small (c .args .n) (c .args .d) (c .pre .some) (c .pre .
 pub returns : need.returns
 returns c =
     let s = small (c .args .n) (c .args .d) (c .pre .some) (c .pre .amount) in
-    let z : toZ w64 (rounded (c .args .n) (c .args .d)) ≡ pos (rounded (c .args .n) (c .args .d)) = omega (arith, ints) in
+    let z : toZ w64 (c .half-up .result) ≡ pos (rounded (c .args .n) (c .args .d)) = omega (arith, ints) in
     record {
       value = z;
       nearest = subst (λ (x : ℤ). Nearest (c .args .n) (c .args .d) (natAbs x)) (sym z) (nearest (c .args .n) (c .args .d) (c .pre .some));
