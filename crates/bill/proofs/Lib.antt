@@ -1,3 +1,4 @@
 mod Answering
+mod Clipping
 mod Cuts
 mod Numbers

@@ -7,13 +7,17 @@ ghost use Rattle.std.specs.Results.{Cases as ByOk};
 ghost use Rattle.std.specs.Vec.{made};
 ghost use Rattle.division.specs.Columns.{tenths};
 ghost use Rattle.bill.specs.Fields.{fieldsOf};
-ghost use Rattle.bill.specs.Bills.{carried, Billed, Unread, answerText};
+ghost use Rattle.bill.specs.Bills.{carried, ReadAs, Unread, Answered, answerText};
 use crate::fields::LineFault;
 use crate::fields::LineFaultFromAlloc;
 use crate::fields::read_figures;
 use crate::text::denied_line;
 use crate::text::shares_line;
 use division::DivisionRule;
+use division::LargestRemainder;
+use division::LargestRemainderRule;
+use division::RunningCut;
+use division::RunningCutRule;
 use division::divide_signed;
 use figures::Cents;
 use figures::Load;
@@ -22,25 +26,22 @@ use std::alloc::Global;
 
 // A total to be divided, and the loads of the seats in order.
 #[derive(Drop)]
-pub struct Bill {
-    pub total: Cents,
-    pub loads: Vec<Load>,
+pub(crate) struct Bill {
+    total: Cents,
+    loads: Vec<Load>,
 }
 
 impl Bill {
     // A bill from its line: the total, then the loads.
-    pub fn read(heap: Global, line: &[u8]) -> Result<Bill, LineFault>
-        ensures { λ r. ⌜ ByOk r (λ b. Billed (fieldsOf (now (line .entry))) (b .total .0) (tenths (vec-items (b .loads)))) (λ e. Unread (fieldsOf (now (line .entry))) e) ⌝ }
+    fn read(heap: Global, line: &[u8]) -> Result<Bill, LineFault>
+        ensures { λ r. ⌜ ByOk r (λ b. ReadAs (fieldsOf (now (line .entry))) (b .total .0) (tenths (vec-items (b .loads)))) (λ e. Unread (fieldsOf (now (line .entry))) e) ⌝ }
     {
-        let figures = read_figures(heap, line)?;
-        let Some((total, rest)) = figures.as_slice().split_first() else {
+        let values = read_figures(heap, line)?;
+        let Some((total, rest)) = values.as_slice().split_first() else {
             return Err(LineFault::Blank);
         };
         let loads = loads_of(heap, rest)?;
-        Ok(Bill {
-            total: Cents(*total),
-            loads,
-        })
+        Ok(Bill { total: Cents(*total), loads })
     }
 }
 
@@ -65,27 +66,15 @@ fn loads_of(heap: Global, figures: &[i64]) -> Result<Vec<Load>, AllocError>
 }
 
 // What a rule answers to a bill: its letter and the shares, or its letter and the denial.
-pub fn answer<R: DivisionRule>(heap: Global, rule: &R, bill: &Bill) -> Result<String, AllocError>
+fn answer<R: DivisionRule>(heap: Global, rule: &R, bill: &Bill) -> Result<String, AllocError>
     ensures { λ r. ⌜ made r (λ s. string-bytes s ≡ answerText (R·DivisionRule .code) (R·DivisionRule .shares (now (rule .entry))) (now (bill .entry) .total .0) (tenths (vec-items (now (bill .entry) .loads)))) ⌝ }
 {
     let mut column = vec![in heap; Cents(0); bill.loads.len()]?;
-    answer_in(
-        heap,
-        rule,
-        bill.total,
-        bill.loads.as_slice(),
-        column.as_mut_slice(),
-    )
+    answer_in(heap, rule, bill.total, bill.loads.as_slice(), column.as_mut_slice())
 }
 
-// The same, with a share column.
-fn answer_in<R: DivisionRule>(
-    heap: Global,
-    rule: &R,
-    total: Cents,
-    loads: &[Load],
-    column: &mut [Cents],
-) -> Result<String, AllocError>
+// Divides into the column, and writes what came of it.
+fn answer_in<R: DivisionRule>(heap: Global, rule: &R, total: Cents, loads: &[Load], column: &mut [Cents]) -> Result<String, AllocError>
     requires { ⌜ length (now column) ≡ length (now loads) ⌝ }
     ensures { λ r. ⌜ made r (λ s. string-bytes s ≡ answerText (R·DivisionRule .code) (R·DivisionRule .shares (now (rule .entry))) (total .0) (tenths (now (loads .entry)))) ⌝ }
 {
@@ -93,4 +82,14 @@ fn answer_in<R: DivisionRule>(
         Ok(()) => shares_line(heap, R::heading(), column),
         Err(fault) => denied_line(heap, R::heading(), fault.ground()),
     }
+}
+
+// The two lines that answer a line: what the running cut charges each seat, then what the largest-remainder rule does.
+pub fn answers(heap: Global, line: &[u8]) -> Result<String, LineFault>
+    ensures { λ r. ⌜ ByOk r (λ s. Answered (fieldsOf (now (line .entry))) (string-bytes s)) (λ e. Unread (fieldsOf (now (line .entry))) e) ⌝ }
+{
+    let bill = Bill::read(heap, line)?;
+    let cut = answer(heap, &RunningCut, &bill)?;
+    let remainder = answer(heap, &LargestRemainder, &bill)?;
+    Ok(format!(heap, "{cut}\n{remainder}\n")?)
 }

@@ -74,14 +74,14 @@ fn number(digits: &[u8]) -> Option<u64>
 }
 
 // n, or i64::MAX where n is larger.
-fn above_zero(n: u64) -> i64
+fn clamped(n: u64) -> i64
     ensures { λ r. ⌜ r ≡ saturated 63 (pos n) ⌝ }
 {
     n.min(i64::MAX as u64) as i64
 }
 
 // -n, or i64::MIN where that is smaller.
-fn below_zero(n: u64) -> i64
+fn clamped_opposite(n: u64) -> i64
     ensures { λ r. ⌜ r ≡ saturated 63 (negℤ (pos n)) ⌝ }
 {
     if n > i64::MAX as u64 {
@@ -91,12 +91,12 @@ fn below_zero(n: u64) -> i64
 }
 
 // The integer that a field writes: an optional '-', then digits. Past 64 bits it is the nearest i64.
-pub fn figure(field: &[u8]) -> Option<i64>
+pub(crate) fn figure(field: &[u8]) -> Option<i64>
     ensures { λ r. ⌜ r ≡ mapped (saturated 63) (figureOf (now (field .entry))) ⌝ }
 {
     match field {
-        [b'-', digits @ ..] => Some(below_zero(number(digits)?)),
-        _ => Some(above_zero(number(field)?)),
+        [b'-', digits @ ..] => Some(clamped_opposite(number(digits)?)),
+        _ => Some(clamped(number(field)?)),
     }
 }
 
@@ -130,17 +130,17 @@ fn next_field(line: &[u8]) -> Option<(&[u8], &[u8])>
 }
 
 // The figures of a line, in order.
-pub fn read_figures(heap: Global, line: &[u8]) -> Result<Vec<i64>, LineFault>
+pub(crate) fn read_figures(heap: Global, line: &[u8]) -> Result<Vec<i64>, LineFault>
     ensures { λ r. ⌜ ByOk r (λ v. Values (fieldsOf (now (line .entry))) (vec-items v)) (λ e. Failing (fieldsOf (now (line .entry))) e) ⌝ }
 {
-    let mut figures = Vec::new(heap);
+    let mut values = Vec::new(heap);
     let mut rest = line;
     while let Some((field, after)) = next_field(rest) {
         let Some(value) = figure(field) else {
-            return Err(LineFault::NotFigure(figures.len() + 1));
+            return Err(LineFault::NotFigure(values.len() + 1));
         };
-        figures.push(value)?;
+        values.push(value)?;
         rest = after;
     }
-    Ok(figures)
+    Ok(values)
 }

@@ -9,7 +9,7 @@ use std::alloc::AllocError;
 use std::alloc::Global;
 
 // The letter, then a space and each share.
-pub fn shares_line(heap: Global, letter: char, shares: &[Cents]) -> Result<String, AllocError>
+pub(crate) fn shares_line(heap: Global, letter: char, shares: &[Cents]) -> Result<String, AllocError>
     ensures { λ r. ⌜ made r (λ s. string-bytes s ≡ sharesText letter (map (λ z. z .0) (now (shares .entry)))) ⌝ }
 {
     let mut line = String::new(heap);
@@ -23,7 +23,7 @@ pub fn shares_line(heap: Global, letter: char, shares: &[Cents]) -> Result<Strin
 }
 
 // The letter, a question mark, the number of the ground and the letter of its layer.
-pub fn denied_line(heap: Global, letter: char, ground: Ground) -> Result<String, AllocError>
+pub(crate) fn denied_line(heap: Global, letter: char, ground: Ground) -> Result<String, AllocError>
     ensures { λ r. ⌜ made r (λ s. string-bytes s ≡ deniedText letter ground) ⌝ }
 {
     let number = ground.number;

@@ -1,24 +1,16 @@
 // Divides hourly bills. Each line of standard input is a signed total in cents and then the loads of the seats; for each
 // it prints two lines, what the running cut and then what the largest-remainder rule charges each seat.
-use bill::Bill;
-use bill::answer;
+use bill::LineFault;
+use bill::answers;
 use bill::fields::LineFaultDisplay;
-use division::LargestRemainder;
-use division::LargestRemainderRule;
-use division::RunningCut;
-use division::RunningCutRule;
 use std::error::AnyError;
 use std::io::BufRead;
 use std::io::BufReader;
 
 fn divide_line(rt: &LibcRuntime, number: u64, line: &[u8]) -> Result<(), AnyError> {
-    match Bill::read(rt.alloc(), line) {
-        Ok(bill) => {
-            let cut = answer(rt.alloc(), &RunningCut, &bill)?;
-            println!(rt, "{cut}")?;
-            let remainder = answer(rt.alloc(), &LargestRemainder, &bill)?;
-            println!(rt, "{remainder}")?;
-        }
+    match answers(rt.alloc(), line) {
+        Ok(text) => print!(rt, "{text}")?,
+        Err(LineFault::NoMemory) => return Err("no memory".into()),
         Err(fault) => eprintln!(rt, "line {number}: {fault}")?,
     }
     Ok(())

@@ -21,7 +21,7 @@ returns-in-Break-number c =
 pub returns-in-Continue-number : need.returns-in-Continue-number
 returns-in-Continue-number c =
     let first : getD (c .args .field .now) 0 0 ≡ 45 = omega arith in
-    let fits : SFits w64 (c .below-zero .result) = search needs in
-    ap Some (toZ-ofZ w64 (c .below-zero .result) fits ∙ c .below-zero .ensures)
+    let fits : SFits w64 (c .clamped-opposite .result) = search needs in
+    ap Some (toZ-ofZ w64 (c .clamped-opposite .result) fits ∙ c .clamped-opposite .ensures)
     ∙ negated _ _ (c .in-Continue-number .ensures tt)
     ∙ ap (mapped (saturated 63)) (sym (after-minus (c .args .field .now) first))

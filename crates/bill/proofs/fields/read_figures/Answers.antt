@@ -14,8 +14,8 @@ use Rattle.bill.proofs.fields.read_figures.Needs as need
 
 pub returns-in-rest-figure : need.returns-in-rest-figure
 returns-in-rest-figure c =
-    let zs = vec-items (c .loop-field .figures) in
-    let n : length zs ≡ c .len .result = sym (c .len .ensures ∙ c .loop-field .figures .ok .0) in
+    let zs = vec-items (c .loop-field .values) in
+    let n : length zs ≡ c .len .result = sym (c .len .ensures ∙ c .loop-field .values .ok .0) in
     subst (λ (k : ℕ). Failing (fieldsOf (c .args .line .now)) (NotFigure (k + 1))) n
     (fails (c .args .line .now) zs (c .loop-field .rest .now) (c .in-Some .field .now) (c .in-Some .after .now) (c .loop-field .inv) (c .in-Some .ensures tt .0) (c .in-rest-figure .ensures tt))
 
@@ -23,5 +23,5 @@ pub loop-field-again : need.loop-field-again
 loop-field-again c =
     let z = c .in-Some-figure .value in
     let fits : SFits w64 z = search needs in
-    more (c .args .line .now) (vec-items (c .loop-field .figures)) (vec-items (c .push .last .self)) (c .loop-field .rest .now) (c .in-Some .field .now) (c .in-Some .after .now) (toZ w64 (ofZ w64 z))
+    more (c .args .line .now) (vec-items (c .loop-field .values)) (vec-items (c .push .last .self)) (c .loop-field .rest .now) (c .in-Some .field .now) (c .in-Some .after .now) (toZ w64 (ofZ w64 z))
     (c .loop-field .inv) (c .in-Some .ensures tt .0) (c .in-Some .ensures tt .1) (ap Some (toZ-ofZ w64 z fits) ∙ c .in-Some-figure .ensures tt) (c .in-Continue-push .ensures tt .items)
