@@ -43,9 +43,10 @@ exact (f ∷ fs) (v ∷ vs) e =
     let tail : map valueOf fs ≡ map Some vs = cc in
     let i = exact fs vs tail in
     let go : (o : Option ℤ) → figureOf f ≡ o → mapped (saturated 63) o ≡ Some v → (zs : List ℤ) × (map figureOf (f ∷ fs) ≡ map Some zs) × (v ∷ vs ≡ map (saturated 63) zs)
-      = λ o. elim o as (λ p. figureOf f ≡ p → mapped (saturated 63) p ≡ Some v → (zs : List ℤ) × (map figureOf (f ∷ fs) ≡ map Some zs) × (v ∷ vs ≡ map (saturated 63) zs)) [
-          None ↦ λ h k. (let w : _≡_ {A = ℕ} 0 1 = cc in absurd (omega arith))
-          | Some z ↦ λ h k. (z ∷ i .0, (let q = i .1 in cc), (let q = i .2 in let r : v ≡ saturated 63 z = cc in cc)) ]
+    = λ o. elim o as (λ p. figureOf f ≡ p → mapped (saturated 63) p ≡ Some v → (zs : List ℤ) × (map figureOf (f ∷ fs) ≡ map Some zs) × (v ∷ vs ≡ map (saturated 63) zs)) [
+      | None ↦ λ h k. (let w : _≡_ {A = ℕ} 0 1 = cc in absurd (omega arith))
+      | Some z ↦ λ h k. (z ∷ i .0, (let q = i .1 in cc), (let q = i .2 in let r : v ≡ saturated 63 z = cc in cc))
+    ]
     in go (figureOf f) refl head
 
 -- a line's figures, as they are carried
@@ -53,12 +54,13 @@ pub read-as : (fs : List (List ℕ)) (vs : List ℤ) (t : ℤ) (rest : List ℤ)
 read-as fs vs t rest ls v s c =
     let e = exact fs vs v in
     let go : (zs : List ℤ) → map figureOf fs ≡ map Some zs → t ∷ rest ≡ map (saturated 63) zs → ReadAs fs t ls
-      = λ zs. elim zs as (λ ys. map figureOf fs ≡ map Some ys → t ∷ rest ≡ map (saturated 63) ys → ReadAs fs t ls) [
-          [] ↦ λ h k. (let w : _≡_ {A = ℕ} 0 1 = cc in absurd (omega arith))
-          | z ∷ ys ↦ λ h k.
-              (let top : t ≡ saturated 63 z = cc in
-              let down : rest ≡ map (saturated 63) ys = cc in
-              (z, ys, h, top, c ∙ (ap (map carried) down ∙ map-map carried (saturated 63) ys))) ]
+    = λ zs. elim zs as (λ ys. map figureOf fs ≡ map Some ys → t ∷ rest ≡ map (saturated 63) ys → ReadAs fs t ls) [
+      | [] ↦ λ h k. (let w : _≡_ {A = ℕ} 0 1 = cc in absurd (omega arith))
+      | z ∷ ys ↦ λ h k.
+          (let top : t ≡ saturated 63 z = cc in
+          let down : rest ≡ map (saturated 63) ys = cc in
+          (z, ys, h, top, c ∙ (ap (map carried) down ∙ map-map carried (saturated 63) ys)))
+    ]
     in go (e .0) (e .1) (sym s ∙ e .2)
 
 pub no-fields : (fs : List (List ℕ)) (zs : List ℤ) → Values fs zs → length zs ≡ 0 → fs ≡ []

@@ -76,21 +76,23 @@ billed : (fs : List (List ℕ)) (z : ℤ) (zs : List ℤ) → map figureOf fs �
 billed [] z zs e = let w : _≡_ {A = ℕ} 0 1 = cc in absurd (omega arith)
 billed (f ∷ fs) z zs e =
     let head : figureOf f ≡ Some z = cc in
-    let tail : map figureOf fs ≡ map Some zs = cc in
-    ( head
-    , sym (map-map (mapped loadOf) figureOf fs) ∙ (ap (map (mapped loadOf)) tail ∙ (map-map (mapped loadOf) Some zs ∙ sym (map-map Some loadOf zs))) )
+    let tail : map figureOf fs ≡ map Some zs = cc in (
+      head,
+      sym (map-map (mapped loadOf) figureOf fs) ∙ (ap (map (mapped loadOf)) tail ∙ (map-map (mapped loadOf) Some zs ∙ sym (map-map Some loadOf zs))),
+    )
 
 -- the two lines, from what was read and what each rule answered to it
 pub both : (fs : List (List ℕ)) (t : ℤ) (ls bs cut rest : List ℕ) → ReadAs fs t ls → cut ≡ answerText 82 cutOf t ls → rest ≡ answerText 76 remainderOf t ls
-  → bs ≡ cut ++ (10 ∷ (rest ++ (10 ∷ []))) → Answered fs bs
+    → bs ≡ cut ++ (10 ∷ (rest ++ (10 ∷ []))) → Answered fs bs
 both fs t ls bs cut rest r c l e =
     let z = r .0 in
     let zs = r .1 in
     let carry : (code : ℕ) (f : ℕ → List ℕ → List ℕ) → answerText code f t ls ≡ answerText code f z (map loadOf zs)
-      = λ code f. ap (λ (y : ℤ). answerText code f y ls) (r .3) ∙ (ap (λ (ns : List ℕ). answerText code f (saturated 63 z) ns) (r .4) ∙ clipped code f z zs) in
-    ( z
-    , map loadOf zs
-    , billed fs z zs (r .2)
-    , e
-      ∙ (ap (λ (xs : List ℕ). xs ++ (10 ∷ (rest ++ (10 ∷ [])))) (c ∙ carry 82 cutOf)
-      ∙ ap (λ (xs : List ℕ). answerText 82 cutOf z (map loadOf zs) ++ (10 ∷ (xs ++ (10 ∷ [])))) (l ∙ carry 76 remainderOf)) )
+    = λ code f. ap (λ (y : ℤ). answerText code f y ls) (r .3) ∙ (ap (λ (ns : List ℕ). answerText code f (saturated 63 z) ns) (r .4) ∙ clipped code f z zs) in (
+      z,
+      map loadOf zs,
+      billed fs z zs (r .2),
+      e
+          ∙ (ap (λ (xs : List ℕ). xs ++ (10 ∷ (rest ++ (10 ∷ [])))) (c ∙ carry 82 cutOf)
+          ∙ ap (λ (xs : List ℕ). answerText 82 cutOf z (map loadOf zs) ++ (10 ∷ (xs ++ (10 ∷ [])))) (l ∙ carry 76 remainderOf)),
+    )

@@ -1,4 +1,5 @@
 pub mod Figures
 pub mod Fields
 pub mod Lines
+pub mod Messages
 pub mod Bills

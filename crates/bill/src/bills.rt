@@ -41,7 +41,10 @@ impl Bill {
             return Err(LineFault::Blank);
         };
         let loads = loads_of(heap, rest)?;
-        Ok(Bill { total: Cents(*total), loads })
+        Ok(Bill {
+            total: Cents(*total),
+            loads,
+        })
     }
 }
 
@@ -70,11 +73,23 @@ fn answer<R: DivisionRule>(heap: Global, rule: &R, bill: &Bill) -> Result<String
     ensures { λ r. ⌜ made r (λ s. string-bytes s ≡ answerText (R·DivisionRule .code) (R·DivisionRule .shares (now (rule .entry))) (now (bill .entry) .total .0) (tenths (vec-items (now (bill .entry) .loads)))) ⌝ }
 {
     let mut column = vec![in heap; Cents(0); bill.loads.len()]?;
-    answer_in(heap, rule, bill.total, bill.loads.as_slice(), column.as_mut_slice())
+    answer_in(
+        heap,
+        rule,
+        bill.total,
+        bill.loads.as_slice(),
+        column.as_mut_slice(),
+    )
 }
 
 // Divides into the column, and writes what came of it.
-fn answer_in<R: DivisionRule>(heap: Global, rule: &R, total: Cents, loads: &[Load], column: &mut [Cents]) -> Result<String, AllocError>
+fn answer_in<R: DivisionRule>(
+    heap: Global,
+    rule: &R,
+    total: Cents,
+    loads: &[Load],
+    column: &mut [Cents],
+) -> Result<String, AllocError>
     requires { ⌜ length (now column) ≡ length (now loads) ⌝ }
     ensures { λ r. ⌜ made r (λ s. string-bytes s ≡ answerText (R·DivisionRule .code) (R·DivisionRule .shares (now (rule .entry))) (total .0) (tenths (now (loads .entry)))) ⌝ }
 {

@@ -9,6 +9,8 @@ ghost use Rattle.std.specs.Options.{mapped, Cases as BySome};
 ghost use Rattle.std.specs.Results.{Cases as ByOk};
 ghost use Rattle.std.specs.shelf.Lists.{leading};
 ghost use Rattle.bill.specs.declared.fields.LineFault.the-variants.{NoMemory};
+ghost use Rattle.std.specs.declared.option.Option.the-variants.{Some};
+ghost use Rattle.bill.specs.Messages.{messageOf};
 ghost use Rattle.bill.specs.Figures.{numberOf, figureOf};
 ghost use Rattle.bill.specs.Fields.{blank, ofKind, fieldsOf, Values, Failing};
 use std::alloc::AllocError;
@@ -28,6 +30,8 @@ pub enum LineFault {
 
 // What was expected of the line.
 pub impl fmt::Display for LineFault as LineFaultDisplay {
+    ghost shown = { λ e. Some (messageOf e) };
+
     fn fmt<W: fmt::Write>(&self, f: &mut fmt::Formatter<W>) -> fmt::Result {
         match self {
             LineFault::Blank => write!(f, "no figures: expected a total in cents, then the loads"),

@@ -9,7 +9,11 @@ use std::alloc::AllocError;
 use std::alloc::Global;
 
 // The letter, then a space and each share.
-pub(crate) fn shares_line(heap: Global, letter: char, shares: &[Cents]) -> Result<String, AllocError>
+pub(crate) fn shares_line(
+    heap: Global,
+    letter: char,
+    shares: &[Cents],
+) -> Result<String, AllocError>
     ensures { λ r. ⌜ made r (λ s. string-bytes s ≡ sharesText letter (map (λ z. z .0) (now (shares .entry)))) ⌝ }
 {
     let mut line = String::new(heap);

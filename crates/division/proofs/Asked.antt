@@ -10,20 +10,21 @@ use Rattle.std.specs.declared.option.Option.the-variants.{None}
 use Rattle.std.proofs.shelf.Ways.{tells}
 use Rattle.std.proofs.shelf.Tests.{or-parts, or-from, or-left, or-right, ltb-false, lt-ltb, le-ltb}
 use Rattle.figures.specs.Grounds.{firstOf}
+use Rattle.division.specs.Limits.{maxLoad}
 use Rattle.division.specs.Rules.{heavy, ruleGrounds, Fair}
 
-pub light-heavy : (ls : List ℕ) → ((s : ℕ) → s < length ls → getD ls s 0 ≤ 300000) → heavy ls ≡ false
+pub light-heavy : (ls : List ℕ) → ((s : ℕ) → s < length ls → getD ls s 0 ≤ maxLoad) → heavy ls ≡ false
 light-heavy [] h = refl
-light-heavy (l ∷ ls) h = or-from _ _ (le-ltb 300000 l (h 0 (omega arith))) (light-heavy ls (λ s lt. h (suc s) (omega arith)))
+light-heavy (l ∷ ls) h = or-from _ _ (le-ltb maxLoad l (h 0 (omega arith))) (light-heavy ls (λ s lt. h (suc s) (omega arith)))
 
-pub heavy-at : (ls : List ℕ) (s : ℕ) → s < length ls → 300000 < getD ls s 0 → heavy ls ≡ true
+pub heavy-at : (ls : List ℕ) (s : ℕ) → s < length ls → maxLoad < getD ls s 0 → heavy ls ≡ true
 heavy-at [] s lt h = absurd (omega arith)
-heavy-at (l ∷ ls) zero lt h = or-left _ _ (lt-ltb 300000 l h)
+heavy-at (l ∷ ls) zero lt h = or-left _ _ (lt-ltb maxLoad l h)
 heavy-at (l ∷ ls) (suc s) lt h = or-right _ _ (heavy-at ls s (omega arith) h)
 
-pub heavy-light : (ls : List ℕ) → heavy ls ≡ false → (s : ℕ) → s < length ls → getD ls s 0 ≤ 300000
+pub heavy-light : (ls : List ℕ) → heavy ls ≡ false → (s : ℕ) → s < length ls → getD ls s 0 ≤ maxLoad
 heavy-light [] h s lt = absurd (omega arith)
-heavy-light (l ∷ ls) h zero lt = ltb-false 300000 l (or-parts _ _ h .0)
+heavy-light (l ∷ ls) h zero lt = ltb-false maxLoad l (or-parts _ _ h .0)
 heavy-light (l ∷ ls) h (suc s) lt = heavy-light ls (or-parts _ _ h .1) s (omega arith)
 
 -- what no ground denies is a fair division

@@ -9,25 +9,26 @@ use Rattle.std.proofs.shelf.Sums.{sumBy-le, sumBy-take-le}
 use Rattle.std.proofs.shelf.Bits.{mul-le}
 use Rattle.figures.specs.declared.units.Load.{Load}
 use Rattle.division.specs.Columns.{tenths}
+use Rattle.division.specs.Limits.{maxTotal, maxSeats, maxLoad}
 use Rattle.division.specs.Rules.{Fair}
 use Rattle.division.proofs.Figures.{none, length-tenths, tenths-at}
 
 module _ (t : ℕ) (ls : List ℕ) (f : Fair t ls) where
-  pub sum-le : sum ls ≤ 4800000
+  pub sum-le : sum ls ≤ maxSeats * maxLoad
   sum-le =
-      let a = sumBy-le (λ x. x) 300000 ls (all-from-getD _ ls 0 (f .light)) in
-      let b = mul-le (length ls) 300000 16 300000 (f .few) (omega arith) in
+      let a = sumBy-le (λ x. x) maxLoad ls (all-from-getD _ ls 0 (f .light)) in
+      let b = mul-le (length ls) maxLoad maxSeats maxLoad (f .few) (omega arith) in
       omega arith
 
-  pub sum-take-le : (s : ℕ) → sum (take s ls) ≤ 4800000
+  pub sum-take-le : (s : ℕ) → sum (take s ls) ≤ maxSeats * maxLoad
   sum-take-le s = let a = sum-le in let b = sumBy-take-le (λ x. x) ls s in omega arith
 
   -- the total by a part of the loads
-  pub product-le : (x : ℕ) → x ≤ 4800000 → t * x ≤ 7200000000000000000
-  product-le x h = mul-le t x 1500000000000 4800000 (f .small) h
+  pub product-le : (x : ℕ) → x ≤ maxSeats * maxLoad → t * x ≤ maxTotal * (maxSeats * maxLoad)
+  product-le x h = mul-le t x maxTotal (maxSeats * maxLoad) (f .small) h
 
 -- one seat's load
-pub load-le : (t : ℕ) (loads : List Load) → Fair t (tenths loads) → (s : ℕ) → s < length loads → getD loads s none .0 ≤ 300000
+pub load-le : (t : ℕ) (loads : List Load) → Fair t (tenths loads) → (s : ℕ) → s < length loads → getD loads s none .0 ≤ maxLoad
 load-le t loads f s lt =
     let n = length-tenths loads in
     let a = tenths-at loads s lt in

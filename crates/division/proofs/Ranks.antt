@@ -1,5 +1,5 @@
 -- Of numbers that are all different, exactly m have fewer than m others above them.
-use mathlib.Core.Path.{_≡_, refl, sym, ap, subst, _∙_}
+use mathlib.Core.Path.{_≡_, refl, sym, ap, _∙_}
 use mathlib.Core.Logic.{_≢_, _⊎_, inl, inr}
 use mathlib.Core.Bool.{Bool}
 use mathlib.Core.List.{List, [], _∷_, map}
@@ -52,7 +52,7 @@ same-count p q (x ∷ xs) h =
     omega (arith, h x (inl refl), count-cons p x xs, count-cons q x xs)
 
 -- the lower of two numbers has no fewer above it
-above-falls : (xs : List ℕ) (z x : ℕ) → z ≤ x → above xs x ≤ above xs z
+pub above-falls : (xs : List ℕ) (z x : ℕ) → z ≤ x → above xs x ≤ above xs z
 above-falls [] z x h = omega arith
 above-falls (y ∷ xs) z x h =
     let i = above-falls xs z x h in

@@ -1,10 +1,10 @@
 -- The largest-remainder rule: its shares add up to the total, and each is less than a cent off.
-use mathlib.Core.Path.{_≡_, refl, sym, ap, subst, _∙_}
-use mathlib.Core.Logic.{_≢_, _⊎_, inl, inr}
-use mathlib.Core.Bool.{Bool, _&&_, _||_}
-use mathlib.Core.List.{List, [], _∷_, map}
-use Prim.Native.Nat.{ℕ, zero, suc, _+_, _-_, _*_, _/_, _%_, _≤_, _<_}
-use native.Mathlib.Nat.{mul-zero, add-mul, mul-add, div-mul-le-self, lt-div-mul-add}
+use mathlib.Core.Path.{_≡_, sym, ap, _∙_}
+use mathlib.Core.Logic.{_⊎_, inl, inr}
+use mathlib.Core.Bool.{_&&_, _||_}
+use mathlib.Core.List.{List, map}
+use Prim.Native.Nat.{ℕ, zero, suc, _+_, _-_, _*_, _≤_, _<_}
+use native.Mathlib.Nat.{mul-zero, add-mul, mul-add}
 use native.Mathlib.Numerals.{add-one}
 use native.Mathlib.Omega.{arith}
 use lib.Dec.{eqb, ltb}
@@ -19,8 +19,8 @@ use Rattle.std.proofs.shelf.Tests.{cases-lt, lt-ltb, le-ltb, or-left}
 use Rattle.std.proofs.shelf.Ways.{tells}
 use Rattle.figures.specs.Rounding.{apart}
 use Rattle.division.specs.Rules.{Fair, Lawful}
-use Rattle.division.specs.Remainder.{floorAt, restAt, restsOf, leftOver, stands, ahead, extraAt, remainderAt, remainderOf}
-use Rattle.division.proofs.Ranks.{above, ranked, different-made}
+use Rattle.division.specs.Remainder.{floorAt, restAt, restsOf, leftOver, stands, ahead, extraAt, remainderAt, remainderOf, LargestRemainders}
+use Rattle.division.proofs.Ranks.{above, above-falls, ranked, different-made}
 use Rattle.division.proofs.SeatSums.{sumTo, bit, sumTo-suc, sumTo-plus, sumTo-le, sumTo-same, sumTo-times, sumTo-one, count-places}
 
 -- the loads of the first n seats, added by place
@@ -148,12 +148,57 @@ module _ (t : ℕ) (ls : List ℕ) (p : 0 < sum ls) where
             omega arith
       ]
 
+  -- who has the cent stands before who has not
+  first : length ls ≤ 16 → (s k : ℕ) → s < length ls → k < length ls → extraAt t ls s ≡ 1 → extraAt t ls k ≡ 0
+      → (restAt t ls k < restAt t ls s) ⊎ ((restAt t ls k ≡ restAt t ls s) × (s < k))
+  first few s k ls-s ls-k one none =
+      let a = ahead-above s few ls-s in
+      let b = ahead-above k few ls-k in
+      let in-front : ahead (restsOf t ls) s < leftOver t ls = elim (cases-lt (ahead (restsOf t ls) s) (leftOver t ls)) [
+        | inl l ↦ l
+        | inr g ↦ absurd (let z = ap bit (le-ltb (ahead (restsOf t ls) s) (leftOver t ls) g) in omega arith)
+      ] in
+      let behind : leftOver t ls ≤ ahead (restsOf t ls) k = elim (cases-lt (ahead (restsOf t ls) k) (leftOver t ls)) [
+        | inl l ↦ absurd (let z = ap bit (lt-ltb (ahead (restsOf t ls) k) (leftOver t ls) l) in omega arith)
+        | inr g ↦ g
+      ] in
+      let above-it : keyAt t ls k < keyAt t ls s = elim (cases-lt (keyAt t ls k) (keyAt t ls s)) [
+        | inl l ↦ l
+        | inr g ↦ absurd (let f = above-falls (keysOf t ls) (keyAt t ls s) (keyAt t ls k) g in omega arith)
+      ] in
+      elim (cases-lt (restAt t ls k) (restAt t ls s)) [
+        | inl l ↦ inl l
+        | inr g ↦ inr (omega arith, omega arith)
+      ]
+
+shares-add : (t : ℕ) (ls : List ℕ) → Fair t ls → sum (remainderOf t ls) ≡ t
+shares-add t ls f =
+    let a = sumTo-plus (floorAt t ls) (extraAt t ls) (length ls) in
+    let b = extras t ls (f .busy) (f .few) in
+    let d = floors-le t ls (f .busy) in
+    omega arith
+
+share-at : (t : ℕ) (ls : List ℕ) (s : ℕ) → s < length ls → getD (remainderOf t ls) s 0 ≡ remainderAt t ls s
+share-at t ls s lt = getD-map-counting (remainderAt t ls) 0 (length ls) s s 0 lt (omega arith)
+
 pub remainder-keeps : (t : ℕ) (ls : List ℕ) → Fair t ls → Lawful t ls (remainderOf t ls)
 remainder-keeps t ls f = record {
   many = length-map-counting (remainderAt t ls) 0 (length ls);
-  adds = (let a = sumTo-plus (floorAt t ls) (extraAt t ls) (length ls) in
-      let b = extras t ls (f .busy) (f .few) in
-      let d = floors-le t ls (f .busy) in
-      omega arith);
-  near = λ s lt. rw (getD-map-counting (remainderAt t ls) 0 (length ls) s s 0 lt (omega arith)) (near t ls (f .busy) s lt);
+  adds = shares-add t ls f;
+  near = λ s lt. rw (share-at t ls s lt) (near t ls (f .busy) s lt);
+}
+
+pub largest-first : LargestRemainders
+largest-first t ls f = record {
+  adds = shares-add t ls f;
+  whole = λ s lt.
+      (let e = share-at t ls s lt in
+      elim (cases-lt (ahead (restsOf t ls) s) (leftOver t ls)) [
+        | inl l ↦ inr (let z = ap bit (lt-ltb (ahead (restsOf t ls) s) (leftOver t ls) l) in omega arith)
+        | inr g ↦ inl (let z = ap bit (le-ltb (ahead (restsOf t ls) s) (leftOver t ls) g) in omega arith)
+      ]);
+  order = λ s k lt lk one none.
+      (let e = share-at t ls s lt in
+      let d = share-at t ls k lk in
+      first t ls (f .busy) (f .few) s k lt lk (omega arith) (omega arith));
 }

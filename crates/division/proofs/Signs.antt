@@ -1,11 +1,10 @@
 -- A signed total: its grounds are those of its size, and its shares keep the law where those of its size do.
 use mathlib.Core.Path.{_≡_, refl, sym, ap, subst, _∙_}
 use mathlib.Core.Logic.{_≢_}
-use mathlib.Core.Bool.{Bool, true, false}
 use mathlib.Core.List.{List, [], _∷_, map, map-map}
-use Prim.Native.Nat.{ℕ, zero, suc, _+_, _-_, _*_, _≤_, _<_}
+use Prim.Native.Nat.{ℕ, zero, suc, _+_, _-_, _*_}
 use native.Mathlib.Omega.{arith}
-use lib.IntN.{ℤ, pos, negsuc, negℤ, natAbs, _+ℤ_, _-ℤ_, _*ℤ_, +ℤ-idr, zero-*ℤ, pos-*ℤ-pos, negsuc-*ℤ-pos}
+use lib.IntN.{ℤ, pos, negsuc, negℤ, natAbs, _+ℤ_, _-ℤ_, _*ℤ_, +ℤ-idr, zero-*ℤ, negsuc-*ℤ-pos}
 use lib.ListN.{length, getD}
 use lib.Signed.{_<ℤ_}
 use Rattle.std.specs.Iters.{folded}

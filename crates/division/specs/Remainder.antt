@@ -6,14 +6,20 @@
 --   ahead rs s       how many seats stand before seat s
 --   extraAt t ls s   one cent more where fewer seats stand before s than cents are left
 --   remainderOf t ls all shares
+--   LargestFirst t ls xs
+--                    the shares xs, in the words of the rule: each is rounded down or one cent more, together they are the total, and
+--                    where one seat has the cent and another has not, it has the larger remainder, or the same and the lower number
+--   LargestRemainders the shares of every fair division are so
 use mathlib.Core.Path.{_≡_, refl}
 use mathlib.Core.Bool.{Bool, cond, _&&_, _||_}
 use mathlib.Core.List.{List, [], _∷_, map}
-use Prim.Native.Nat.{ℕ, _+_, _-_, _*_, _/_, _%_}
+use mathlib.Core.Logic.{_⊎_}
+use Prim.Native.Nat.{ℕ, _+_, _-_, _*_, _/_, _%_, _<_}
 use lib.Dec.{eqb, ltb}
 use lib.ListN.{length, getD}
 use Rattle.std.specs.Iters.{counting}
 use Rattle.std.specs.shelf.Lists.{sum, countBy}
+use Rattle.division.specs.Rules.{Fair}
 
 abbrev pub floorAt : ℕ → List ℕ → ℕ → ℕ
 floorAt t ls s = t * getD ls s 0 / sum ls
@@ -41,6 +47,15 @@ remainderAt t ls s = floorAt t ls s + extraAt t ls s
 
 abbrev pub remainderOf : ℕ → List ℕ → List ℕ
 remainderOf t ls = map (remainderAt t ls) (counting 0 (length ls))
+
+pub record LargestFirst (t : ℕ) (ls xs : List ℕ) : Type 0 where
+  pub adds : sum xs ≡ t
+  pub whole : (s : ℕ) → s < length ls → (getD xs s 0 ≡ floorAt t ls s) ⊎ (getD xs s 0 ≡ floorAt t ls s + 1)
+  pub order : (s k : ℕ) → s < length ls → k < length ls → getD xs s 0 ≡ floorAt t ls s + 1 → getD xs k 0 ≡ floorAt t ls k
+      → (restAt t ls k < restAt t ls s) ⊎ ((restAt t ls k ≡ restAt t ls s) × (s < k))
+
+abbrev pub LargestRemainders : Type 0
+LargestRemainders = (t : ℕ) (ls : List ℕ) → Fair t ls → LargestFirst t ls (remainderOf t ls)
 
 -- 101 cents over loads 1, 2, 1: the floors 25, 50, 25 leave one cent, and the remainder of seat 1 is the largest
 middle : remainderOf 101 (1 ∷ 2 ∷ 1 ∷ []) ≡ 25 ∷ 51 ∷ 25 ∷ []

@@ -8,6 +8,7 @@ pub use cut::RunningCut;
 pub use cut::RunningCutRule;
 pub use remainder::LargestRemainder;
 pub use remainder::LargestRemainderRule;
+pub use remainder::largest_first;
 pub use rules::DivisionFault;
 pub use rules::DivisionRule;
 pub use rules::MAX_LOAD;

@@ -1,6 +1,6 @@
 ghost use mathlib.Core.Path.{_≡_};
-ghost use mathlib.Core.List.{List, map};
-ghost use Prim.Native.Nat.{ℕ, _+_, _*_, _<_, _≤_};
+ghost use mathlib.Core.List.{map};
+ghost use Prim.Native.Nat.{_+_, _*_, _<_, _≤_};
 ghost use lib.IntN.{pos};
 ghost use lib.ListN.{length};
 ghost use Rattle.std.specs.Iters.{counting};
@@ -8,7 +8,7 @@ ghost use Rattle.std.specs.shelf.Lists.{sum};
 ghost use Rattle.division.specs.Limits.{maxTotal, maxLoad};
 ghost use Rattle.division.specs.Columns.{tenths, centsOf};
 ghost use Rattle.division.specs.Rules.{Fair};
-ghost use Rattle.division.specs.Remainder.{floorAt, restsOf, leftOver, stands, ahead, remainderOf};
+ghost use Rattle.division.specs.Remainder.{floorAt, restsOf, leftOver, stands, ahead, remainderOf, LargestRemainders};
 use crate::rules::DivisionFault;
 use crate::rules::DivisionRule;
 use crate::rules::MAX_SEATS;
@@ -19,6 +19,11 @@ use figures::Load;
 // Every share rounded down, then one cent each to the seats of largest remainder, ties to the lower seat.
 #[derive(Clone, Copy)]
 pub struct LargestRemainder;
+
+// Its contract is the rule in its own words: the cents that are left go to the largest remainders, ties to the lower seat.
+pub fn largest_first()
+    ensures { λ _. ⌜ LargestRemainders ⌝ }
+{}
 
 pub impl DivisionRule for LargestRemainder as LargestRemainderRule {
     const LETTER: char = 'L';
@@ -50,7 +55,7 @@ fn write_remainder(total: u64, loads: &[Load], all: u64, out: &mut [Cents])
     share_out(total, loads, all, &mut column[..n], out);
 }
 
-// The same, with a column for the remainders.
+// Writes the share of each seat, with a column that takes the remainders.
 fn share_out(total: u64, loads: &[Load], all: u64, rests: &mut [u64], out: &mut [Cents])
     requires fair { ⌜ Fair total (tenths (now loads)) ⌝ }
     requires all { ⌜ all ≡ sum (tenths (now loads)) ⌝ }
@@ -101,7 +106,7 @@ fn due_of(total: u64, load: Load) -> u64
     requires total { ⌜ total ≤ maxTotal ⌝ }
     requires load { ⌜ load .0 ≤ maxLoad ⌝ }
     ensures value { λ r. ⌜ r ≡ total * load .0 ⌝ }
-    ensures small { λ r. ⌜ r ≤ 450000000000000000 ⌝ }
+    ensures small { λ r. ⌜ r ≤ maxTotal * maxLoad ⌝ }
 {
     total * u64::from(load.0)
 }

@@ -1,10 +1,9 @@
 ghost use mathlib.Core.Path.{_≡_};
 ghost use mathlib.Core.Bool.{true, false, _||_};
 ghost use mathlib.Core.List.{List, map};
-ghost use Prim.Native.Nat.{ℕ, _+_, _*_, _<_, _≤_};
-ghost use lib.Dec.{eqb, ltb};
-ghost use lib.IntN.{ℤ, pos, natAbs};
-ghost use lib.ListN.{length, getD};
+ghost use Prim.Native.Nat.{ℕ, _<_};
+ghost use lib.IntN.{pos, natAbs};
+ghost use lib.ListN.{length};
 ghost use Rattle.std.specs.Options.{Cases as BySome};
 ghost use Rattle.std.specs.Vec.{made};
 ghost use Rattle.std.specs.shelf.Lists.{sum};
@@ -61,8 +60,6 @@ pub trait DivisionRule {
     // What the rule means: the shares of a total over loads.
     ghost shares: { Self → ℕ → List ℕ → List ℕ };
 
-    law ascii: { code < 128 };
-
     law keeps: { (rule : Self) (t : ℕ) (ls : List ℕ) → Fair t ls → Lawful t ls (shares rule t ls) };
 
     // The letter again, since a clause cannot name a constant of a trait: each rule answers `Self::LETTER`.
@@ -78,7 +75,7 @@ pub trait DivisionRule {
 pub(crate) fn sum_if_fit(loads: &[Load], room: usize) -> Option<u64>
     ensures { λ r. ⌜ BySome r (unfit (tenths (now (loads .entry))) room ≡ true) (λ n. (unfit (tenths (now (loads .entry))) room ≡ false) × (n ≡ sum (tenths (now (loads .entry))))) ⌝ }
 {
-    if loads.len() == 0 || loads.len() > MAX_SEATS || room != loads.len() {
+    if loads.is_empty() || loads.len() > MAX_SEATS || room != loads.len() {
         return None;
     }
     let mut all: u64 = 0;

@@ -1,5 +1,5 @@
 -- Half-up rounding gives the nearest whole number, and of two equally near the higher.
-use mathlib.Core.Path.{_≡_, ap, _∙_}
+use mathlib.Core.Path.{_≡_, ap}
 use mathlib.Core.Logic.{inl, inr}
 use Prim.Native.Nat.{ℕ, _+_, _*_, _≤_, _<_}
 use native.Mathlib.Nat.{add-mul, mul-assoc, mul-comm, div-mul-le-self, lt-div-mul-add}

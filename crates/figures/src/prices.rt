@@ -1,6 +1,6 @@
 ghost use mathlib.Core.Path.{_≡_};
 ghost use mathlib.Core.Bool.{false};
-ghost use Prim.Native.Nat.{ℕ, _+_, _*_, _^_, _<_, _≤_};
+ghost use Prim.Native.Nat.{_+_, _*_, _^_, _<_};
 ghost use lib.IntN.{pos, natAbs};
 ghost use Rattle.std.specs.Vec.{made};
 ghost use Rattle.figures.specs.Grounds.{Judged};
@@ -69,17 +69,17 @@ pub struct Terms {
 fn half_up(n: u64, d: u64) -> u64
     requires some { ⌜ 0 < d ⌝ }
     requires amount { ⌜ n < 2 ^ 62 ⌝ }
-    requires share { ⌜ d < 2 ^ 32 ⌝ }
+    requires divisor { ⌜ d < 2 ^ 32 ⌝ }
     ensures { λ r. ⌜ r ≡ rounded n d ⌝ }
 {
     (2 * n + d) / (2 * d)
 }
 
-// The same in cents.
+// n ÷ d cents, rounded so.
 fn rounded_cents(n: u64, d: u64) -> Cents
     requires some { ⌜ 0 < d ⌝ }
     requires amount { ⌜ n < 2 ^ 62 ⌝ }
-    requires share { ⌜ d < 2 ^ 32 ⌝ }
+    requires divisor { ⌜ d < 2 ^ 32 ⌝ }
     ensures value { λ r. ⌜ r .0 ≡ pos (rounded n d) ⌝ }
     ensures nearest { λ r. ⌜ Nearest n d (natAbs (r .0)) ⌝ }
 {
@@ -123,9 +123,9 @@ impl Terms {
         ensures value { λ r. ⌜ r .0 ≡ pos (creditOf (now (self .entry) .figures) (product .0) (kw .0)) ⌝ }
         ensures nearest { λ r. ⌜ Nearest (kw .0 * netOf (now (self .entry) .figures) (product .0)) (1000 * now (self .entry) .figures .hours) (natAbs (r .0)) ⌝ }
     {
-        let share = 1000 * u64::from(self.figures.hours);
+        let divisor = 1000 * u64::from(self.figures.hours);
         let amount = u64::from(kw.0) * u64::from(self.net(product).0);
-        rounded_cents(amount, share)
+        rounded_cents(amount, divisor)
     }
 
     // What `failed` kilowatts of a product cost in one hour.
@@ -133,10 +133,10 @@ impl Terms {
         ensures value { λ r. ⌜ r .0 ≡ pos (penaltyOf (now (self .entry) .figures) (product .0) (failed .0)) ⌝ }
         ensures nearest { λ r. ⌜ Nearest (failed .0 * netOf (now (self .entry) .figures) (product .0) * now (self .entry) .figures .factor .0) (100000 * now (self .entry) .figures .hours) (natAbs (r .0)) ⌝ }
     {
-        let share = 100_000 * u64::from(self.figures.hours);
+        let divisor = 100_000 * u64::from(self.figures.hours);
         let amount = u64::from(failed.0)
             * u64::from(self.net(product).0)
             * u64::from(self.figures.factor.0);
-        rounded_cents(amount, share)
+        rounded_cents(amount, divisor)
     }
 }

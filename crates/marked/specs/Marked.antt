@@ -2,7 +2,7 @@
 use mathlib.Core.Path.{_≡_}
 use mathlib.Core.List.{List, [], _∷_}
 use Prim.Native.Nat.{ℕ}
-use lib.IntN.{ℤ, pos, negℤ}
+use lib.IntN.{pos, negℤ}
 use Rattle.figures.specs.Prices.{netOf, creditOf, penaltyOf}
 use Rattle.figures.specs.declared.prices.TermFigures.{TermFigures}
 use Rattle.division.specs.Rules.{signedShares}

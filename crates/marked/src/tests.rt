@@ -208,10 +208,12 @@ fn denied_and_unaltered() -> Result<(), Fail> {
 #[test]
 fn columns_and_signs() -> Result<(), Fail> {
     let mut out = [Cents(-7); 2];
-    // the column is shorter than the loads
+    // a column shorter than the loads, and one longer
     let short = LargestRemainder.divide(Cents(9), &[Load(1), Load(1), Load(1)], &mut out);
     check_eq(short.err(), Some(DivisionFault::Beyond))?;
-    check_eq(out[1].0, -7)?;
+    let long = RunningCut.divide(Cents(9), &[Load(1)], &mut out);
+    check_eq(long.err(), Some(DivisionFault::Beyond))?;
+    check_eq((out[0].0, out[1].0), (-7, -7))?;
     let loads = [Load(100), Load(150)];
     check(divide_signed(&RunningCut, Cents(-12_657), &loads, &mut out).is_ok())?;
     check_eq((out[0].0, out[1].0), (-5_062, -7_595))?;

@@ -6,7 +6,6 @@ use Rattle.std.specs.Of.String.{string-bytes}
 use Rattle.std.proofs.shelf.Results.{made-weaker}
 use Rattle.figures.specs.declared.grounds.Ground.{Ground}
 use Rattle.division.specs.Columns.{tenths, amounts}
-use Rattle.division.specs.Rules.{groundOf}
 use Rattle.division.proofs.Figures.{length-tenths}
 use Rattle.bill.specs.Lines.{sharesText, deniedText}
 use Rattle.bill.specs.Bills.{answerText}

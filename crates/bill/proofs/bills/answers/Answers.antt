@@ -1,4 +1,3 @@
-use mathlib.Core.Path.{_≡_}
 use Rattle.std.specs.Of.String.{string-bytes}
 use Rattle.std.specs.Of.Vec.{vec-items}
 use Rattle.division.specs.Columns.{tenths}

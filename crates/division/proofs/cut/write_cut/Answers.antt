@@ -1,17 +1,17 @@
 use borrow.Author.Count.{below-more}
 use mathlib.Core.Path.{_≡_, ap, _∙_}
 use mathlib.Core.Logic.{_≢_}
-use Prim.Native.Nat.{ℕ, _+_, _-_, _*_, _/_, _≤_, _<_}
+use Prim.Native.Nat.{_+_, _-_, _*_, _/_, _≤_, _<_}
 use native.Mathlib.Nat.{div-le-self}
 use native.Mathlib.Omega.{arith}
 use lib.IntN.{ℤ, pos}
-use lib.ListN.{length, getD, take}
+use lib.ListN.{length, take}
 use lib.Seq.{getD-set-same, getD-set-other}
 use mir.Val.{toZ}
 use mir.Syntax.{w64}
 use Rattle.std.specs.shelf.Lists.{sum}
 use Rattle.std.proofs.shelf.Signed.{ints}
-use Rattle.figures.specs.declared.units.Cents.{Cents}
+use Rattle.division.specs.Limits.{maxTotal, maxSeats, maxLoad}
 use Rattle.division.specs.Columns.{tenths}
 use Rattle.division.specs.Cut.{upTo, cutAt}
 use Rattle.division.proofs.Bounds.{sum-take-le, product-le}
@@ -27,17 +27,17 @@ reached : (c : need.After-from-run)
     → c .args .total * (c .loop-s .run + c .from-run .result) / c .args .all ≡ upTo (c .args .total) (tenths (c .args .loads .now)) (c .loop-s .s + 1)
 reached c = let e = ran c in let a = c .pre .all in cc
 
-bound : (c : need.After-from-run) → c .loop-s .run + c .from-run .result ≤ 4800000
+bound : (c : need.After-from-run) → c .loop-s .run + c .from-run .result ≤ maxSeats * maxLoad
 bound c =
     let e = ran c in
     let b = sum-take-le (c .args .total) (tenths (c .args .loads .now)) (c .pre .fair) (c .loop-s .s + 1) in
     omega arith
 
-product : (c : need.After-from-run) → c .args .total * (c .loop-s .run + c .from-run .result) ≤ 7200000000000000000
+product : (c : need.After-from-run) → c .args .total * (c .loop-s .run + c .from-run .result) ≤ maxTotal * (maxSeats * maxLoad)
 product c = product-le (c .args .total) (tenths (c .args .loads .now)) (c .pre .fair) (c .loop-s .run + c .from-run .result) (bound c)
 
 small : (c : need.After-from-run)
-    → c .args .total * (c .loop-s .run + c .from-run .result) / c .args .all - c .loop-s .paid ≤ 7200000000000000000
+    → c .args .total * (c .loop-s .run + c .from-run .result) / c .args .all - c .loop-s .paid ≤ maxTotal * (maxSeats * maxLoad)
 small c =
     let p = product c in
     let d = div-le-self (c .args .total * (c .loop-s .run + c .from-run .result)) (c .args .all) in

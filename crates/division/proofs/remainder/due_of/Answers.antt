@@ -1,11 +1,12 @@
-use mathlib.Core.Path.{_≡_, ap}
+use mathlib.Core.Path.{ap}
 use Prim.Native.Nat.{ℕ, _*_, _≤_}
 use native.Mathlib.Omega.{arith}
 use Rattle.std.proofs.shelf.Bits.{mul-le}
+use Rattle.division.specs.Limits.{maxTotal, maxLoad}
 use Rattle.division.proofs.remainder.due_of.Needs as need
 
-small : (c : need.After-from) → c .args .total * c .from .result ≤ 450000000000000000
-small c = let e = c .from .ensures in let l = c .pre .load in mul-le (c .args .total) (c .from .result) 1500000000000 300000 (c .pre .total) (omega arith)
+small : (c : need.After-from) → c .args .total * c .from .result ≤ maxTotal * maxLoad
+small c = let e = c .from .ensures in let l = c .pre .load in mul-le (c .args .total) (c .from .result) maxTotal maxLoad (c .pre .total) (omega arith)
 
 pub mul-result : need.mul-result
 mul-result c = let s = small c in omega arith

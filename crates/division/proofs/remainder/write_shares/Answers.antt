@@ -1,7 +1,6 @@
 use borrow.Author.Count.{below-more}
 use mathlib.Core.Path.{_≡_, sym, ap, _∙_}
 use mathlib.Core.Logic.{_≢_}
-use mathlib.Core.Bool.{Bool}
 use mathlib.Core.List.{List}
 use Prim.Native.Nat.{ℕ, _+_, _*_, _/_, _≤_, _<_}
 use native.Mathlib.Nat.{div-le-self}
@@ -10,11 +9,12 @@ use lib.Dec.{ltb}
 use lib.IntN.{ℤ, pos}
 use lib.ListN.{length, getD}
 use lib.Seq.{getD-set-same, getD-set-other}
-use mir.Val.{toZ, boolByte}
+use mir.Val.{toZ}
 use mir.Syntax.{w64}
 use Rattle.std.proofs.shelf.Signed.{ints}
+use Rattle.division.specs.Limits.{maxTotal, maxLoad}
 use Rattle.division.specs.Columns.{tenths}
-use Rattle.division.specs.Remainder.{floorAt, restsOf, leftOver, ahead, extraAt, remainderAt}
+use Rattle.division.specs.Remainder.{floorAt, restsOf, ahead, extraAt, remainderAt}
 use Rattle.division.proofs.Bounds.{load-le}
 use Rattle.division.proofs.Figures.{length-tenths, tenths-at, filled}
 use Rattle.division.proofs.SeatSums.{bit, boolByte-is, bit-le}
@@ -33,7 +33,7 @@ extra c =
     ∙ (ap (λ (n : ℕ). bit (ltb n (c .args .left))) (c .ahead-of .ensures ∙ ap (λ (rs : List ℕ). ahead rs (c .loop-s .s)) (c .pre .rests))
     ∙ ap (λ (n : ℕ). bit (ltb (ahead (restsOf t ls) (c .loop-s .s)) n)) (c .pre .left)))
 
-share-small : (c : need.After-from-extra) → c .due-of .result / c .args .all + c .from-extra .result ≤ 450000000000000001
+share-small : (c : need.After-from-extra) → c .due-of .result / c .args .all + c .from-extra .result ≤ maxTotal * maxLoad + 1
 share-small c =
     let b = c .due-of .ensures .small in
     let d = div-le-self (c .due-of .result) (c .args .all) in

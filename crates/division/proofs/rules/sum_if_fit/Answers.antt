@@ -1,8 +1,8 @@
 use borrow.Author.Count.{below-more}
-use mathlib.Core.Path.{_≡_, ap, _∙_}
-use Prim.Native.Nat.{ℕ, _≤_, _<_}
+use mathlib.Core.Path.{ap, _∙_}
+use Prim.Native.Nat.{_<_}
 use native.Mathlib.Omega.{arith}
-use lib.ListN.{length, getD}
+use lib.ListN.{length}
 use Rattle.std.specs.shelf.Lists.{sum}
 use Rattle.std.proofs.shelf.Lists.{take-all}
 use Rattle.std.proofs.shelf.Ways.{tells}
@@ -11,8 +11,8 @@ use Rattle.division.proofs.Asked.{light-heavy, heavy-at}
 use Rattle.division.proofs.Figures.{length-tenths, tenths-at, sum-more}
 use Rattle.division.proofs.rules.sum_if_fit.Needs as need
 
-pub returns-then-loads-eq0 : need.returns-then-loads-eq0
-returns-then-loads-eq0 c = let n = length-tenths (c .args .loads .now) in grind (arith, tells)
+pub returns-then-is-empty : need.returns-then-is-empty
+returns-then-is-empty c = let n = length-tenths (c .args .loads .now) in grind (arith, tells)
 
 pub returns-then-load-gt-MAX-LOAD : need.returns-then-load-gt-MAX-LOAD
 returns-then-load-gt-MAX-LOAD c =

@@ -1,8 +1,7 @@
-use mathlib.Core.Path.{_≡_, refl, sym, ap, _∙_}
-use Prim.Native.Nat.{_+_, _<_}
+use mathlib.Core.Path.{_≡_, ap, _∙_}
 use native.Mathlib.Omega.{arith}
 use lib.IntN.{ℤ, pos, negℤ, _-ℤ_}
-use lib.ListN.{length, getD, set}
+use lib.ListN.{getD, set}
 use lib.Signed.{_≤ℤ_}
 use mir.Val.{toZ, ofZ}
 use mir.Syntax.{w64}

@@ -1,5 +1,5 @@
 use mathlib.Core.Path.{_≡_}
-use Prim.Native.Nat.{ℕ, _*_, _^_, _<_}
+use Prim.Native.Nat.{_*_, _^_, _<_}
 use native.Mathlib.Omega.{arith}
 use borrow.Author.Needs.{needs}
 use Rattle.figures.specs.Prices.{netOf}
@@ -14,4 +14,4 @@ rounded-cents-requires c κs =
     let k : c .args .kw .0 < 2 ^ 32 = search needs in
     let b = credit-below f w (c .args .product .0) (c .args .kw .0) k in
     let e : c .from .result * c .from-2 .result ≡ c .args .kw .0 * netOf f (c .args .product .0) = cc in
-    record { some = omega arith; amount = omega arith; share = omega arith }
+    record { some = omega arith; amount = omega arith; divisor = omega arith }

@@ -1,5 +1,5 @@
 use mathlib.Core.Path.{_≡_}
-use Prim.Native.Nat.{ℕ, _*_, _^_, _<_}
+use Prim.Native.Nat.{_*_, _^_, _<_}
 use native.Mathlib.Omega.{arith}
 use borrow.Author.Needs.{needs}
 use Rattle.figures.specs.Prices.{netOf}
@@ -21,4 +21,4 @@ mul-amount-2 c = let a = amount c in omega arith
 pub rounded-cents-requires : need.rounded-cents-requires
 rounded-cents-requires c κs =
     let l = limits (c .args .self .now .figures) (c .args .self .now .within) in
-    record { some = omega arith; amount = amount c; share = omega arith }
+    record { some = omega arith; amount = amount c; divisor = omega arith }
