@@ -19,7 +19,7 @@ use std::alloc::Refused;
 use std::fmt;
 
 // Why a line gives no figures.
-#[derive(Clone, Copy, PartialEq, Eq, Debug)]
+#[derive(Clone, Copy)]
 pub enum LineFault {
     // The line holds no field at all.
     Blank,

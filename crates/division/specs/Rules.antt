@@ -7,6 +7,8 @@
 --   Divided gs new was r out
 --                        under the grounds gs a call answered r; its share column, was before it, is out after it:
 --                        new where the call was done, and else unaltered
+--   RuleDivided f z ls was r out
+--                        the same of a rule that means f, asked for the shares of the total z over the loads ls
 --   Fair t ls            a total and loads that a rule divides
 --   Lawful t ls xs       the shares xs keep the law of a rule
 --   signedShares f z ls  the shares of a signed total, f giving those of its size
@@ -61,6 +63,9 @@ after (Err e) new was = was
 pub record Divided {F X : Type 0} (gs : List (Bool × F)) (new was : List X) (r : Result Unit F) (out : List X) : Type 0 where
   pub judged : Judged gs r
   pub column : out ≡ after r new was
+
+abbrev pub RuleDivided : (ℕ → List ℕ → List ℕ) → ℤ → List ℕ → List Cents → Result Unit DivisionFault → List Cents → Type 0
+RuleDivided f z ls was r out = Divided (ruleGrounds z ls (length was)) (centsOf (map pos (f (natAbs z) ls))) was r out
 
 pub record Fair (t : ℕ) (ls : List ℕ) : Type 0 where
   pub small : t ≤ maxTotal

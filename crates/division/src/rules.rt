@@ -1,15 +1,15 @@
 ghost use mathlib.Core.Path.{_≡_};
 ghost use mathlib.Core.Bool.{true, false, _||_};
-ghost use mathlib.Core.List.{List, map};
+ghost use mathlib.Core.List.{List};
 ghost use Prim.Native.Nat.{ℕ, _<_};
-ghost use lib.IntN.{pos, natAbs};
+ghost use lib.IntN.{natAbs};
 ghost use lib.ListN.{length};
 ghost use Rattle.std.specs.Options.{Cases as BySome};
 ghost use Rattle.std.specs.Vec.{made};
 ghost use Rattle.std.specs.shelf.Lists.{sum};
 ghost use Rattle.figures.specs.Grounds.{Judged};
-ghost use Rattle.division.specs.Columns.{tenths, centsOf};
-ghost use Rattle.division.specs.Rules.{unfit, ruleGrounds, groundOf, Divided, Fair, Lawful};
+ghost use Rattle.division.specs.Columns.{tenths};
+ghost use Rattle.division.specs.Rules.{unfit, ruleGrounds, groundOf, RuleDivided, Fair, Lawful};
 use figures::Cents;
 use figures::Ground;
 use figures::Layer;
@@ -68,7 +68,7 @@ pub trait DivisionRule {
 
     // Writes one share a seat, or denies and leaves the column as it was.
     fn divide(&self, total: Cents, loads: &[Load], out: &mut [Cents]) -> Result<(), DivisionFault>
-        ensures { λ r. ⌜ Divided (ruleGrounds (total .0) (tenths (now (loads .entry))) (length (now (out .entry)))) (centsOf (map pos (shares (now (self .entry)) (natAbs (total .0)) (tenths (now (loads .entry)))))) (now (out .entry)) r (now (out .exit)) ⌝ };
+        ensures { λ r. ⌜ RuleDivided (shares (now (self .entry))) (total .0) (tenths (now (loads .entry))) (now (out .entry)) r (now (out .exit)) ⌝ };
 }
 
 // The sum of the loads, where they and a share column of length `room` are what a division takes.

@@ -10,12 +10,8 @@ use crate::grounds::Ground;
 use crate::grounds::Layer;
 use crate::units::Cents;
 use crate::units::Factor;
-use crate::units::FactorDebug;
-use crate::units::FactorPartialEq;
 use crate::units::Kw;
 use crate::units::Price;
-use crate::units::PriceDebug;
-use crate::units::PricePartialEq;
 use crate::units::Product;
 
 // The most delivery hours a month has.
@@ -26,7 +22,7 @@ pub const MAX_PRICE: u32 = 2_000_000;
 pub const MAX_FACTOR: u16 = 500;
 
 // The terms of a month as they are given, within their limits or not.
-#[derive(Clone, Copy, PartialEq, Eq, Debug)]
+#[derive(Clone, Copy)]
 pub struct TermFigures {
     // How many delivery hours the month has.
     pub hours: u16,
@@ -59,7 +55,7 @@ impl TermsFault {
 }
 
 // The terms of a month, each within its limit.
-#[derive(Clone, Copy, PartialEq, Eq, Debug)]
+#[derive(Clone, Copy)]
 pub struct Terms {
     figures: TermFigures,
     ghost within: { beyond figures ≡ false },
