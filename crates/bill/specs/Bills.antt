@@ -5,6 +5,7 @@
 --   Unread fs e      the fault e is right of the fields fs
 --   answerText c f z ls
 --                    what the rule with the letter c and the meaning f answers: its shares of the signed total z, or its denial
+--   answered c o zs  the same, where the ground o was met or none, and the shares are zs
 --   carried z        a figure of 64 bits as a load of 32: one that no load holds as the largest
 --   ReadAs fs t ls   t and ls are what is carried of the figures that the fields fs write
 use mathlib.Core.Path.{_≡_, refl}

@@ -1,7 +1,7 @@
 ghost use mathlib.Core.Path.{_≡_};
-ghost use mathlib.Core.List.{map};
 ghost use Rattle.std.specs.Of.String.{string-bytes};
 ghost use Rattle.std.specs.Vec.{made};
+ghost use Rattle.division.specs.Columns.{amounts};
 ghost use Rattle.bill.specs.Lines.{sharesText, deniedText};
 use figures::Cents;
 use figures::Ground;
@@ -14,7 +14,7 @@ pub(crate) fn shares_line(
     letter: char,
     shares: &[Cents],
 ) -> Result<String, AllocError>
-    ensures { λ r. ⌜ made r (λ s. string-bytes s ≡ sharesText letter (map (λ z. z .0) (now (shares .entry)))) ⌝ }
+    ensures { λ r. ⌜ made r (λ s. string-bytes s ≡ sharesText letter (amounts (now (shares .entry)))) ⌝ }
 {
     let mut line = String::new(heap);
     line.push(letter)?;

@@ -1,19 +1,19 @@
 -- The running cut: what its shares add up to, and how near each is.
-use mathlib.Core.Path.{_≡_, sym, ap, subst, _∙_}
-use mathlib.Core.List.{List, map}
+use mathlib.Core.Path.{_≡_, sym, ap, _∙_}
+use mathlib.Core.List.{List}
 use Prim.Native.Nat.{ℕ, zero, suc, _+_, _*_, _/_, _≤_, _<_}
 use native.Mathlib.Nat.{mul-zero, zero-div, add-mul, mul-add, mul-div-left, div-mul-le-self, lt-div-mul-add}
 use native.Mathlib.Numerals.{add-one}
 use native.Mathlib.Omega.{arith}
 use lib.ListN.{length, getD, take}
-use Rattle.std.specs.Iters.{counting}
 use Rattle.std.specs.shelf.Lists.{sum}
 use Rattle.std.proofs.shelf.Lists.{take-all}
-use Rattle.std.proofs.shelf.Counted.{length-map-counting, getD-map-counting, sumBy-map-counting-more}
+use Rattle.std.proofs.shelf.Counted.{length-map-counting, getD-map-counting}
 use Rattle.std.proofs.shelf.Sums.{sumBy-more}
 use Rattle.std.proofs.shelf.Bits.{le-div, mul-le}
 use Rattle.division.specs.Rules.{Fair, Lawful}
 use Rattle.division.specs.Cut.{upTo, cutAt, cutOf}
+use Rattle.division.proofs.SeatSums.{sumTo, sumTo-suc}
 
 div-mono : (x y k : ℕ) → 0 < k → x ≤ y → x / k ≤ y / k
 div-mono x y k p h = le-div (x / k) y k p (let d = div-mul-le-self x k in omega arith)
@@ -27,14 +27,14 @@ module _ (t : ℕ) (ls : List ℕ) (p : 0 < sum ls) where
       div-mono (t * sum (take s ls)) (t * sum (take (s + 1) ls)) (sum ls) p m
 
   -- the shares of the first n seats are what they have together
-  sum-upTo : (n : ℕ) → n ≤ length ls → sum (map (cutAt t ls) (counting 0 n)) ≡ upTo t ls n
+  sum-upTo : (n : ℕ) → n ≤ length ls → sumTo (cutAt t ls) n ≡ upTo t ls n
   sum-upTo zero h = sym (rw mul-zero (zero-div (sum ls)))
   sum-upTo (suc n) h =
       let i = sum-upTo n (omega arith) in
-      let m = sumBy-map-counting-more (λ x. x) (cutAt t ls) 0 n n (omega arith) in
+      let m = sumTo-suc (cutAt t ls) n in
       let r = upTo-rises n (omega arith) in
-      let g : sum (map (cutAt t ls) (counting 0 (n + 1))) ≡ upTo t ls (n + 1) = omega arith in
-      subst (λ (x : ℕ). sum (map (cutAt t ls) (counting 0 x)) ≡ upTo t ls x) (add-one n) g
+      let e = ap (upTo t ls) (add-one n) in
+      omega arith
 
   cut-lawful : Lawful t ls (cutOf t ls)
   cut-lawful = record {

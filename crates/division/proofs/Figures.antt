@@ -16,8 +16,12 @@ use Rattle.figures.specs.declared.units.Cents.{Cents}
 use Rattle.figures.specs.declared.units.Load.{Load}
 use Rattle.division.specs.Columns.{tenths, centsOf}
 
+-- a load of 0, and an amount of 0: what a column gives past its end
 abbrev pub none : Load
 none = record { 0 = 0 }
+
+abbrev pub nothing : Cents
+nothing = record { 0 = pos 0 }
 
 pub length-tenths : (loads : List Load) → length (tenths loads) ≡ length loads
 length-tenths loads = length-map loads (λ (l : Load). l .0)
@@ -32,9 +36,6 @@ sum-more loads s lt =
     let e = sumBy-more (λ x. x) (tenths loads) s 0 (omega arith) in
     let a = tenths-at loads s lt in
     omega arith
-
-abbrev pub nothing : Cents
-nothing = record { 0 = pos 0 }
 
 -- a share column that holds f at each seat
 pub filled : (f : ℕ → ℕ) (out : List Cents) (n : ℕ) → length out ≡ n

@@ -1,10 +1,13 @@
 -- The largest-remainder rule. Assumes nothing.
 --   floorAt t ls s   the share of seat s of the total t, t × load ÷ all loads, rounded down
 --   restAt t ls s    the remainder of that division
+--   restsOf t ls     the remainders of all seats
 --   leftOver t ls    the cents that are left when every seat has its share rounded down
 --   stands rs k s    by the remainders rs, seat k stands before seat s: its remainder is larger, or the same and k the lower seat
 --   ahead rs s       how many seats stand before seat s
 --   extraAt t ls s   one cent more where fewer seats stand before s than cents are left
+--   remainderAt t ls s
+--                    the share of seat s: rounded down, and that cent
 --   remainderOf t ls all shares
 --   LargestFirst t ls xs
 --                    the shares xs, in the words of the rule: each is rounded down or one cent more, together they are the total, and

@@ -4,6 +4,7 @@
 --   ruleGrounds z ls n   the grounds on which a rule denies the total z
 --   signedGrounds z ls n the same for the division of a signed total
 --   groundOf e           number, layer and place of a fault
+--   after r new was      new where the answer r is not a denial, and else was
 --   Divided gs new was r out
 --                        under the grounds gs a call answered r; its share column, was before it, is out after it:
 --                        new where the call was done, and else unaltered
@@ -12,6 +13,7 @@
 --   Fair t ls            a total and loads that a rule divides
 --   Lawful t ls xs       the shares xs keep the law of a rule
 --   signedShares f z ls  the shares of a signed total, f giving those of its size
+--   sumℤ zs              the sum of signed shares
 --   Balanced z ls zs     signed shares keep the law
 --   SignedDivided f z ls was r out
 --                        the same of a division of the signed total z by a rule that means f; the shares keep the law

@@ -2,6 +2,7 @@
 --   beyond f         a term lies beyond its limit; a month has at least one hour
 --   termGrounds f    the grounds on which terms are denied
 --   groundOf e       number, layer and place of a fault in the terms
+--   priceOf f p      the clearing price of product p
 --   netOf f p        the net price of product p, in cents for a MW and month
 --   creditOf f p k   the credit in cents for k kW of product p in one hour
 --   penaltyOf f p k  the penalty in cents for k failed kW of product p in one hour

@@ -1,5 +1,5 @@
 use mathlib.Core.Path.{_≡_, sym, ap, _∙_}
-use mathlib.Core.List.{List, [], _∷_, _++_, map}
+use mathlib.Core.List.{List, [], _∷_, _++_}
 use Prim.Native.Nat.{ℕ, _+_, _<_, _≤_}
 use borrow.Author.Needs.{needs}
 use lib.IntN.{ℤ, pos}
@@ -13,14 +13,12 @@ use Rattle.std.specs.Written.{signed}
 use Rattle.std.proofs.shelf.Lists.{joined-more, map-more, take-all}
 use Rattle.std.proofs.shelf.Signed.{toZ-ofZ}
 use Rattle.figures.specs.declared.units.Cents.{Cents}
+use Rattle.division.specs.Columns.{amounts}
 use Rattle.bill.specs.Lines.{sharesText}
 use Rattle.bill.proofs.text.shares_line.Needs as need
 
 abbrev spaced : ℤ → List ℕ
 spaced z = 32 ∷ signed z
-
-abbrev amounts : List Cents → List ℤ
-amounts ss = map (λ (z : Cents). z .0) ss
 
 -- one share more
 added : (bs line text after : List ℕ) (ss : List Cents) (i : ℕ) (d : Cents) → i < length ss → line ≡ bs ++ joined spaced (amounts (take i ss)) → text ≡ spaced (getD ss i d .0) → after ≡ line ++ text → after ≡ bs ++ joined spaced (amounts (take (i + 1) ss))
