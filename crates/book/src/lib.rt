@@ -1,4 +1,6 @@
 // The trade book: owners hand obligations to one another. It lies on any sheet and is itself a sheet.
+#![tactic(auto)]
+
 pub mod books;
 pub mod cancels;
 pub mod confirms;

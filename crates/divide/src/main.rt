@@ -1,5 +1,7 @@
 // Divides hourly bills. Each line of standard input is a signed total in cents and then the loads of the seats; for each
 // it prints two lines, what the running cut and then what the largest-remainder rule charges each seat.
+#![tactic(auto)]
+
 use anyhow::anyhow;
 use bill::{LineFault, answers};
 use std::io::{BufRead, BufReader};

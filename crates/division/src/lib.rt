@@ -1,4 +1,6 @@
 // Division of a total among seats by their loads: the rules, and what every rule owes.
+#![tactic(auto)]
+
 pub mod cut;
 pub mod remainder;
 pub mod rules;

@@ -1,4 +1,6 @@
 // Units, grounds and prices: the figures that everything else is reckoned in.
+#![tactic(auto)]
+
 pub mod grounds;
 pub mod prices;
 pub mod units;

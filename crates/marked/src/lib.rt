@@ -1,4 +1,6 @@
 // The marked figures, proved as one list, and the tests that run them with the limits and the likely mistakes.
+#![tactic(auto)]
+
 ghost use Rattle.marked.specs.Marked.{MarkedFigures};
 
 #[cfg(test)]

@@ -1,4 +1,6 @@
 // Books piled on one another: what is proved of a book over any sheet holds of a book over a book, with nothing proved anew.
+#![tactic(auto)]
+
 ghost use Rattle.std.specs.Prelude.{◌≡◌, []};
 ghost use Rattle.sheet.specs.Tables.{at, kilowatts, total_at};
 ghost use Rattle.book.specs.Deals.{confirm_answer, confirmed_in, deal_of};

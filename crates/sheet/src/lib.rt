@@ -1,4 +1,6 @@
 // Sheets: what each seat owes in each hour. One interface, and the two sheets that come from outside.
+#![tactic(auto)]
+
 pub mod awards;
 pub mod columns;
 pub mod faults;
