@@ -13,21 +13,21 @@ returns-in-Ok g c =
     let f = g.R.DivisionRule.shares c.args.rule.now in
     let ls = tenths c.args.loads.now in
     let n : length c.args.column.now ≡ length ls = (let m = length-tenths c.args.loads.now in omega arith) in
-    let t = shares_text_lem g.R.DivisionRule.code f c.args.total.0 ls c.args.column.now c.divide-signed.new.out n c.in-Ok.ensures in
-    IfOk-weaker c.shares-line.result
-    (λ s. string_bytes s ≡ shares_text c.heading.result (amounts c.divide-signed.new.out))
+    let t = shares_text_lem g.R.DivisionRule.code f c.args.total.0 ls c.args.column.now c.divide_signed.new.out n c.in-Ok.ensures in
+    IfOk-weaker c.shares_line.result
+    (λ s. string_bytes s ≡ shares_text c.heading.result (amounts c.divide_signed.new.out))
     (λ s. string_bytes s ≡ answer_text g.R.DivisionRule.code f c.args.total.0 ls)
-    (λ s e. e ∙ (ap (λ (k : ℕ). shares_text k (amounts c.divide-signed.new.out)) c.heading.ensures ∙ sym t))
-    c.shares-line.ensures
+    (λ s e. e ∙ (ap (λ (k : ℕ). shares_text k (amounts c.divide_signed.new.out)) c.heading.ensures ∙ sym t))
+    c.shares_line.ensures
 
 pub returns-in-Err : goal.returns-in-Err
 returns-in-Err g c =
     let f = g.R.DivisionRule.shares c.args.rule.now in
     let ls = tenths c.args.loads.now in
     let n : length c.args.column.now ≡ length ls = (let m = length-tenths c.args.loads.now in omega arith) in
-    let t = denial_text g.R.DivisionRule.code f c.args.total.0 ls c.args.column.now c.divide-signed.new.out n c.in-Err.fault c.in-Err.ensures in
-    IfOk-weaker c.denied-line.result
+    let t = denial_text g.R.DivisionRule.code f c.args.total.0 ls c.args.column.now c.divide_signed.new.out n c.in-Err.fault c.in-Err.ensures in
+    IfOk-weaker c.denied_line.result
     (λ s. string_bytes s ≡ denied_text c.heading-in-Err.result c.ground.result)
     (λ s. string_bytes s ≡ answer_text g.R.DivisionRule.code f c.args.total.0 ls)
     (λ s e. e ∙ (ap (λ (k : ℕ). denied_text k c.ground.result) c.heading-in-Err.ensures ∙ (ap (λ (d : Ground). denied_text g.R.DivisionRule.code d) c.ground.ensures ∙ sym t)))
-    c.denied-line.ensures
+    c.denied_line.ensures

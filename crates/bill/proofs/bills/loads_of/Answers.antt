@@ -9,8 +9,8 @@ pub loop-figure-preserved : goal.loop-figure-preserved
 loop-figure-preserved c =
     let z = get_or c.args.figures.now c.loop-figure.figure-index (pos 0) in
     let fits : SFits w64 z = search rules in
-    loads_more (vec_items c.loop-figure.loads) (vec_items c.push.new.self) c.load-of.result c.args.figures.now c.loop-figure.figure-index
-    c.loop-figure-test.true c.in-ok-push.ensures.items c.loop-figure.invariant (c.load-of.ensures ∙ ap carried (to_z-of_z w64 z fits))
+    loads_more (vec_items c.loop-figure.loads) (vec_items c.push.new.self) c.load_of.result c.args.figures.now c.loop-figure.figure-index
+    c.loop-figure-test.true c.in_ok-push.ensures.items c.loop-figure.invariant (c.load_of.ensures ∙ ap carried (to_z-of_z w64 z fits))
 
 pub returns : goal.returns
 returns c =

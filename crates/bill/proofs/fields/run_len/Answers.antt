@@ -15,16 +15,16 @@ flip : (t u : Bool) → not t ≡ u → t ≡ not u
 flip true u e = ap not e
 flip false u e = ap not e
 
-pub returns-then-is-blank-blanks : goal.returns-then-is-blank-blanks
-returns-then-is-blank-blanks c =
+pub returns-then-is_blank-blanks : goal.returns-then-is_blank-blanks
+returns-then-is_blank-blanks c =
     let b = get_or c.args.line.now c.loop-i.i 0 in
-    let k = kind c.is-blank.result c.args.blanks b c.is-blank.ensures ∙ flip (beq c.is-blank.result c.args.blanks) true c.if-is-blank-blanks.true in
+    let k = kind c.is_blank.result c.args.blanks b c.is_blank.ensures ∙ flip (beq c.is_blank.result c.args.blanks) true c.if-is_blank-blanks.true in
     omega (arith, prefix_len-drop_no (of_kind c.args.blanks) c.args.line.now c.loop-i.i 0 c.loop-i-test.true k)
 
 pub loop-i-preserved : goal.loop-i-preserved
 loop-i-preserved c =
     let b = get_or c.args.line.now c.loop-i.i 0 in
-    let k = kind c.is-blank.result c.args.blanks b c.is-blank.ensures ∙ flip (beq c.is-blank.result c.args.blanks) false c.if-is-blank-blanks.false in
+    let k = kind c.is_blank.result c.args.blanks b c.is_blank.ensures ∙ flip (beq c.is_blank.result c.args.blanks) false c.if-is_blank-blanks.false in
     omega (arith, prefix_len-drop_yes (of_kind c.args.blanks) c.args.line.now c.loop-i.i 0 c.loop-i-test.true k)
 
 pub returns : goal.returns

@@ -24,10 +24,10 @@ loop-share-preserved c =
     let d : Cents = record { 0 = pos 0 } in
     let z = (get_or c.args.shares.now c.loop-share.share-index d).0 in
     let fits : SFits w64 z = search rules in
-    added (string_bytes c.push.new.self) (string_bytes c.loop-share.line) c.as-str.result.now (string_bytes c.push-str.new.self)
+    added (string_bytes c.push.new.self) (string_bytes c.loop-share.line) c.as_str.result.now (string_bytes c.push_str.new.self)
     c.args.shares.now c.loop-share.share-index d c.loop-share-test.true c.loop-share.invariant
-    (c.as-str.ensures.value ∙ c.in-ok-part.ensures.ok ∙ ap spaced (to_z-of_z w64 z fits))
-    c.in-ok-push-str.ensures.bytes
+    (c.as_str.ensures.value ∙ c.in_ok-part.ensures.ok ∙ ap spaced (to_z-of_z w64 z fits))
+    c.in_ok-push_str.ensures.bytes
 
 -- the letter, and every share
 complete : (letter : ℕ) (fresh started line : List ℕ) (ss : List Cents) (i : ℕ) → length ss ≤ i → fresh ≡ [] → started ≡ fresh ++ encode letter → line ≡ started ++ flat_map spaced (amounts (take i ss)) → line ≡ shares_text letter (amounts ss)
@@ -36,4 +36,4 @@ complete letter fresh started line ss i l n e h = rw (h, e, n, take_all i ss l)
 pub returns : goal.returns
 returns c =
     complete c.args.letter (string_bytes c.new-line.result) (string_bytes c.push.new.self) (string_bytes c.loop-share.line)
-    c.args.shares.now c.loop-share.share-index c.loop-share-test.false c.new-line.ensures.bytes c.in-ok-push.ensures.bytes c.loop-share.invariant
+    c.args.shares.now c.loop-share.share-index c.loop-share-test.false c.new-line.ensures.bytes c.in_ok-push.ensures.bytes c.loop-share.invariant

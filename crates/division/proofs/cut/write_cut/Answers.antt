@@ -7,32 +7,33 @@ use Rattle.division.proofs.Bounds.{sum-take-le, product_le}
 use Rattle.division.specs.Cutting.{up_to_rises}
 use Rattle.division.proofs.Figures.{length-tenths, sum_more, filled}
 use Rattle.division.proofs.cut.write_cut.Goals as goal
+use Rattle.division.proofs.cut.write_cut.Goals.{After-from-run}
 
 -- the loads up to and with this seat
-ran : (c : goal.After-from-run) → c.loop-s.run + c.from-run.result ≡ sum (take (c.loop-s.s + 1) (tenths c.args.loads.now))
+ran : (c : After-from-run) → c.loop-s.run + c.from-run.result ≡ sum (take (c.loop-s.s + 1) (tenths c.args.loads.now))
 ran c = let e = sum_more c.args.loads.now c.loop-s.s c.loop-s-test.true in omega arith
 
-reached : (c : goal.After-from-run)
+reached : (c : After-from-run)
     → c.args.total * (c.loop-s.run + c.from-run.result) / c.args.all ≡ up_to c.args.total (tenths c.args.loads.now) (c.loop-s.s + 1)
 reached c = let e = ran c in let a = c.requires.all in cc
 
-bound : (c : goal.After-from-run) → c.loop-s.run + c.from-run.result ≤ max_seats * max_load
+bound : (c : After-from-run) → c.loop-s.run + c.from-run.result ≤ max_seats * max_load
 bound c =
     let e = ran c in
     let b = sum-take-le c.args.total (tenths c.args.loads.now) c.requires.fair (c.loop-s.s + 1) in
     omega arith
 
-product : (c : goal.After-from-run) → c.args.total * (c.loop-s.run + c.from-run.result) ≤ max_total * (max_seats * max_load)
+product : (c : After-from-run) → c.args.total * (c.loop-s.run + c.from-run.result) ≤ max_total * (max_seats * max_load)
 product c = product_le c.args.total (tenths c.args.loads.now) c.requires.fair (c.loop-s.run + c.from-run.result) (bound c)
 
-small : (c : goal.After-from-run)
+small : (c : After-from-run)
     → c.args.total * (c.loop-s.run + c.from-run.result) / c.args.all - c.loop-s.paid ≤ max_total * (max_seats * max_load)
 small c =
     let p = product c in
     let d = div-le_self (c.args.total * (c.loop-s.run + c.from-run.result)) c.args.all in
     omega arith
 
-rises : (c : goal.After-from-run)
+rises : (c : After-from-run)
     → c.loop-s.paid ≤ c.args.total * (c.loop-s.run + c.from-run.result) / c.args.all
 rises c =
     let n = length-tenths c.args.loads.now in
@@ -40,17 +41,17 @@ rises c =
     let r = up_to_rises c.args.total (tenths c.args.loads.now) c.requires.fair.busy c.loop-s.s (omega arith) in
     omega arith
 
-pub overflow-add-run : goal.overflow-add-run
-overflow-add-run c = let b = bound c in omega arith
+pub overflow_add-run : goal.overflow_add-run
+overflow_add-run c = let b = bound c in omega arith
 
-pub overflow-mul-upto : goal.overflow-mul-upto
-overflow-mul-upto c = let p = product c in omega arith
+pub overflow_mul-upto : goal.overflow_mul-upto
+overflow_mul-upto c = let p = product c in omega arith
 
-pub overflow-sub-out : goal.overflow-sub-out
-overflow-sub-out c = rises c
+pub overflow_sub-out : goal.overflow_sub-out
+overflow_sub-out c = rises c
 
-pub overflow-cast-out : goal.overflow-cast-out
-overflow-cast-out c = let s = small c in omega (arith, ints)
+pub overflow_cast-out : goal.overflow_cast-out
+overflow_cast-out c = let s = small c in omega (arith, ints)
 
 pub loop-s-preserved : goal.loop-s-preserved
 loop-s-preserved c =

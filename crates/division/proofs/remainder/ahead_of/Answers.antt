@@ -4,13 +4,14 @@ use Rattle.std.proofs.lemmas.List.FromFn.{sum_by-map-range_with_len_more}
 use Rattle.division.specs.Remainder.{stands}
 use Rattle.division.specs.SeatSums.{bit, bool_byte_is, bit_le}
 use Rattle.division.proofs.remainder.ahead_of.Goals as goal
+use Rattle.division.proofs.remainder.ahead_of.Goals.{After-from-n}
 
 -- what a turn adds
-one : (c : goal.After-from-n) → c.from-n.result ≡ bit (stands c.args.rests.now c.loop-k.k c.args.s)
-one c = c.from-n.ensures ∙ (bool_byte_is c.stands-before.result ∙ ap bit c.stands-before.ensures)
+one : (c : After-from-n) → c.from-n.result ≡ bit (stands c.args.rests.now c.loop-k.k c.args.s)
+one c = c.from-n.ensures ∙ (bool_byte_is c.stands_before.result ∙ ap bit c.stands_before.ensures)
 
-pub overflow-add-n : goal.overflow-add-n
-overflow-add-n c = let o = one c in let b = bit_le (stands c.args.rests.now c.loop-k.k c.args.s) in omega arith
+pub overflow_add-n : goal.overflow_add-n
+overflow_add-n c = let o = one c in let b = bit_le (stands c.args.rests.now c.loop-k.k c.args.s) in omega arith
 
 pub loop-k-preserved : goal.loop-k-preserved
 loop-k-preserved c =

@@ -7,13 +7,13 @@ use Rattle.division.proofs.Bounds.{load-le}
 use Rattle.division.proofs.Figures.{length-tenths, tenths-at}
 use Rattle.division.proofs.remainder.write_rests.Goals as goal
 
-pub due-of-due-requires : goal.due-of-due-requires
-due-of-due-requires c = record { total = c.requires.fair.small; load = load-le c.args.total c.args.loads.now c.requires.fair c.loop-s.s c.loop-s-test.true }
+pub due_of-due-requires : goal.due_of-due-requires
+due_of-due-requires c = record { total = c.requires.fair.small; load = load-le c.args.total c.args.loads.now c.requires.fair c.loop-s.s c.loop-s-test.true }
 
-pub overflow-add-given : goal.overflow-add-given
-overflow-add-given c =
-    let s = c.due-of-due.ensures.small in
-    let d = div-le_self c.due-of-due.result c.args.all in
+pub overflow_add-given : goal.overflow_add-given
+overflow_add-given c =
+    let s = c.due_of-due.ensures.small in
+    let d = div-le_self c.due_of-due.result c.args.all in
     let f = c.requires.fair.few in
     let n = length-tenths c.args.loads.now in
     omega arith
@@ -23,11 +23,11 @@ loop-s-preserved c =
     let t = c.args.total in
     let ls = tenths c.args.loads.now in
     let i = c.loop-s.s in
-    let due = c.due-of-due.result in
-    let s = c.due-of-due.ensures.small in
+    let due = c.due_of-due.result in
+    let s = c.due_of-due.ensures.small in
     let d = div-le_self due c.args.all in
     let m = sum_by-map-range_with_len_more (λ x. x) (floor_at t ls) 0 i i (omega arith) in
-    let e : due ≡ t * get_or ls i 0 = c.due-of-due.ensures.value ∙ ap (λ (x : ℕ). t * x) (sym (tenths-at c.args.loads.now i c.loop-s-test.true)) in
+    let e : due ≡ t * get_or ls i 0 = c.due_of-due.ensures.value ∙ ap (λ (x : ℕ). t * x) (sym (tenths-at c.args.loads.now i c.loop-s-test.true)) in
     let a = c.requires.all in
     let f : due / c.args.all ≡ floor_at t ls i = cc in
     let g : due % c.args.all ≡ rest_at t ls i = cc in

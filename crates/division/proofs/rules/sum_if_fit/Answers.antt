@@ -6,11 +6,11 @@ use Rattle.division.proofs.Asked.{light_heavy, heavy_at}
 use Rattle.division.proofs.Figures.{length-tenths, tenths-at, sum_more}
 use Rattle.division.proofs.rules.sum_if_fit.Goals as goal
 
-pub returns-then-is-empty : goal.returns-then-is-empty
-returns-then-is-empty c = let n = length-tenths c.args.loads.now in grind (arith, nat_tests)
+pub returns-then-is_empty : goal.returns-then-is_empty
+returns-then-is_empty c = let n = length-tenths c.args.loads.now in grind (arith, nat_tests)
 
-pub returns-then-load-gt-MAX-LOAD : goal.returns-then-load-gt-MAX-LOAD
-returns-then-load-gt-MAX-LOAD c =
+pub returns-then-load-gt-MAX_LOAD : goal.returns-then-load-gt-MAX_LOAD
+returns-then-load-gt-MAX_LOAD c =
     let loads = c.args.loads.now in
     let i = c.loop-load.load-index in
     let lt : i < length loads = omega arith in

@@ -6,16 +6,17 @@ use Rattle.figures.specs.declared.units.Cents.{Cents}
 use Rattle.division.specs.Columns.{negated}
 use Rattle.division.proofs.Figures.{nothing, kept_at, all_written}
 use Rattle.division.proofs.signed.negate.Goals as goal
+use Rattle.division.proofs.signed.negate.Goals.{After-share-in-loop-share}
 
 -- the share that this turn comes to
-share : (c : goal.After-share-in-loop-share·1) → pos 0 ≤ℤ (get_or c.loop-share.out c.loop-share.share-index nothing).0
+share : (c : After-share-in-loop-share·1) → pos 0 ≤ℤ (get_or c.loop-share.out c.loop-share.share-index nothing).0
 share c =
     let k = ap (λ (x : Cents). x.0) (kept_at negated c.args.out.now c.loop-share.out c.loop-share.share-index c.loop-share-test.true c.loop-share.invariant) in
     let p = c.requires c.loop-share.share-index c.loop-share-test.true in
     omega (arith, ints)
 
-pub overflow-sub-share : goal.overflow-sub-share
-overflow-sub-share c = let s = share c in omega (arith, ints)
+pub overflow_sub-share : goal.overflow_sub-share
+overflow_sub-share c = let s = share c in omega (arith, ints)
 
 pub loop-share-preserved : goal.loop-share-preserved
 loop-share-preserved c =

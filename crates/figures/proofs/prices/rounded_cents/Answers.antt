@@ -8,13 +8,13 @@ use Rattle.figures.proofs.prices.rounded_cents.Goals as goal
 small : (n d : ℕ) → 0 < d → n < 2 ^ 62 → rounded n d < 2 ^ 63
 small n d p h = div_below (2 * n + d) (2 * d) (2 ^ 63) (omega arith) (omega arith)
 
-pub overflow-cast-result : goal.overflow-cast-result
-overflow-cast-result c = let s = small c.args.n c.args.d c.requires.some c.requires.amount in omega (arith, ints)
+pub overflow_cast-result : goal.overflow_cast-result
+overflow_cast-result c = let s = small c.args.n c.args.d c.requires.some c.requires.amount in omega (arith, ints)
 
 pub returns : goal.returns
 returns c =
     let s = small c.args.n c.args.d c.requires.some c.requires.amount in
-    let z : to_z w64 c.half-up.result ≡ pos (rounded c.args.n c.args.d) = omega (arith, ints) in
+    let z : to_z w64 c.half_up.result ≡ pos (rounded c.args.n c.args.d) = omega (arith, ints) in
     record {
       value = z;
       nearest = subst (λ (x : ℤ). Nearest c.args.n c.args.d (nat_abs x)) (sym z) (nearest c.args.n c.args.d c.requires.some);

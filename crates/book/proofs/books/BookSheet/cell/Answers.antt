@@ -13,5 +13,5 @@ returns-in-Some g c ok =
     let d = sold_at c.args.seat.0 w rs in
     let here : t.cell c.args.seat.0 w ≡ Some c.in-Some.kw.0 = sym (c.in-Some.ensures ok.under) in
     let le = cell_small t (g.met.S.Sheet.bounded c.args.self.now.below ok.under) c.args.seat.0 w c.in-Some.kw.0 here in
-    let e : c.saturating-sub.result ≡ (c.in-Some.kw.0 + b) - d = omega (arith, le, c.moved-moved.ensures.bought, c.moved-moved.ensures.most, c.moved-moved.ensures.sold) in
+    let e : c.saturating_sub.result ≡ (c.in-Some.kw.0 + b) - d = omega (arith, le, c.moved-moved.ensures.bought, c.moved-moved.ensures.most, c.moved-moved.ensures.sold) in
     ap (λ (n : ℕ). Some n) e ∙ sym (ap (shifted b d) here)

@@ -11,15 +11,15 @@ use Rattle.book.proofs.Calls.{denied-first-from, held-from, denied-later-from, a
 use Rattle.book.proofs.Stays.{cancel_stays}
 use Rattle.book.proofs.kept.Book.cancel_from.Goals as goal
 
-pub returns-in-default : goal.returns-in-default
-returns-in-default g c =
+pub returns-in_default : goal.returns-in_default
+returns-in_default g c =
     let b = c.args.self.now in
     let n = c.args.number.0 in
     let t = g.S.Sheet.table b.below in
     let rs = vec_items b.trades in
     let gs = known_grounds rs n in
     let hs = undo_grounds (over t rs) (trade_of rs n) in
-    let none : first_of gs ≡ Some NoTrade = rw c.in-default.ensures in
+    let none : first_of gs ≡ Some NoTrade = rw c.in_default.ensures in
     denied_call g.S.Sheet.table g.S.Sheet.lawful (cancel_answer_from c.args.from.0 n) (λ (xs : List Trade). cancelled_in xs n) b NoTrade (λ ok. denied-first-from gs hs (begins_before (trade_of rs n).offer c.args.from.0) NoTrade none)
 
 pub returns-then-trade-from : goal.returns-then-trade-from
@@ -32,12 +32,12 @@ returns-then-trade-from g c =
     let hs = undo_grounds (over t rs) (trade_of rs n) in
     let found = c.in-Some.ensures in
     let known : first_of gs ≡ None = rw found.1 in
-    let is : c.trade-at-trade.result ≡ trade_of rs n = c.trade-at-trade.ensures.is ∙ ap (λ (k : ℕ). get_or rs k no_trade) found.0 in
-    let late = ap (λ (r : Trade). begins_before r.offer c.args.from.0) (sym is) ∙ lt-ltb c.trade-at-trade.result.offer.first.0 c.args.from.0 c.if-trade-from.true in
+    let is : c.trade_at-trade.result ≡ trade_of rs n = c.trade_at-trade.ensures.is ∙ ap (λ (k : ℕ). get_or rs k no_trade) found.0 in
+    let late = ap (λ (r : Trade). begins_before r.offer c.args.from.0) (sym is) ∙ lt-ltb c.trade_at-trade.result.offer.first.0 c.args.from.0 c.if-trade-from.true in
     held_call g.S.Sheet.table g.S.Sheet.lawful (cancel_answer_from c.args.from.0 n) (λ (xs : List Trade). cancelled_in xs n) b (λ ok. held-from gs hs (begins_before (trade_of rs n).offer c.args.from.0) known late)
 
-pub returns-in-err-spares : goal.returns-in-err-spares
-returns-in-err-spares g c =
+pub returns-in_err-spares : goal.returns-in_err-spares
+returns-in_err-spares g c =
     let p = err_from_is_err_and c.from-residual.result c.from-residual.ensures.1 in
     let b = c.args.self.now in
     let n = c.args.number.0 in
@@ -47,10 +47,10 @@ returns-in-err-spares g c =
     let hs = undo_grounds (over t rs) (trade_of rs n) in
     let found = c.in-Some.ensures in
     let known : first_of gs ≡ None = rw found.1 in
-    let is : c.trade-at-trade.result ≡ trade_of rs n = c.trade-at-trade.ensures.is ∙ ap (λ (k : ℕ). get_or rs k no_trade) found.0 in
-    let early = ap (λ (r : Trade). begins_before r.offer c.args.from.0) (sym is) ∙ le-ltb c.trade-at-trade.result.offer.first.0 c.args.from.0 c.if-trade-from.false in
-    let e = c.in-err-spares.field-0.0 in
-    rw (p.1, p.2) (denied_call g.S.Sheet.table g.S.Sheet.lawful (cancel_answer_from c.args.from.0 n) (λ (xs : List Trade). cancelled_in xs n) b e (λ ok. denied-later-from gs hs (begins_before (trade_of rs n).offer c.args.from.0) e known early (subst (λ (r : Trade). first_of (undo_grounds (over t rs) r) ≡ Some e) is (c.in-err-spares.ensures ok))))
+    let is : c.trade_at-trade.result ≡ trade_of rs n = c.trade_at-trade.ensures.is ∙ ap (λ (k : ℕ). get_or rs k no_trade) found.0 in
+    let early = ap (λ (r : Trade). begins_before r.offer c.args.from.0) (sym is) ∙ le-ltb c.trade_at-trade.result.offer.first.0 c.args.from.0 c.if-trade-from.false in
+    let e = c.in_err-spares.field-0.0 in
+    rw (p.1, p.2) (denied_call g.S.Sheet.table g.S.Sheet.lawful (cancel_answer_from c.args.from.0 n) (λ (xs : List Trade). cancelled_in xs n) b e (λ ok. denied-later-from gs hs (begins_before (trade_of rs n).offer c.args.from.0) e known early (subst (λ (r : Trade). first_of (undo_grounds (over t rs) r) ≡ Some e) is (c.in_err-spares.ensures ok))))
 
 pub returns : goal.returns
 returns g c =
@@ -62,10 +62,10 @@ returns g c =
     let hs = undo_grounds (over t rs) (trade_of rs n) in
     let found = c.in-Some.ensures in
     let known : first_of gs ≡ None = rw found.1 in
-    let is : c.trade-at-trade.result ≡ trade_of rs n = c.trade-at-trade.ensures.is ∙ ap (λ (k : ℕ). get_or rs k no_trade) found.0 in
-    let early = ap (λ (r : Trade). begins_before r.offer c.args.from.0) (sym is) ∙ le-ltb c.trade-at-trade.result.offer.first.0 c.args.from.0 c.if-trade-from.false in
+    let is : c.trade_at-trade.result ≡ trade_of rs n = c.trade_at-trade.ensures.is ∙ ap (λ (k : ℕ). get_or rs k no_trade) found.0 in
+    let early = ap (λ (r : Trade). begins_before r.offer c.args.from.0) (sym is) ∙ le-ltb c.trade_at-trade.result.offer.first.0 c.args.from.0 c.if-trade-from.false in
     let lt : index_of rs n < length rs = ltb-true (index_of rs n) (length rs) found.1 in
     let items = c.strike.ensures.trades ∙ ap (λ (k : ℕ). remove rs k) found.0 in
     done_call g.S.Sheet.table g.S.Sheet.lawful (cancel_answer_from c.args.from.0 n) (λ (xs : List Trade). cancelled_in xs n) b c.strike.new.self c.strike.ensures.below items (λ ok.
-    let none = subst (λ (r : Trade). first_of (undo_grounds (over t rs) r) ≡ None) is (c.in-ok-spares.ensures ok) in
+    let none = subst (λ (r : Trade). first_of (undo_grounds (over t rs) r) ≡ None) is (c.in_ok-spares.ensures ok) in
     (accepted-from gs hs (begins_before (trade_of rs n).offer c.args.from.0) known early none, cancel_stays t rs n lt ok.trades none))

@@ -9,8 +9,8 @@ use Rattle.book.proofs.Calls.{denied_first, denied_later, accepted, denied_call,
 use Rattle.book.proofs.Stays.{confirm_stays}
 use Rattle.book.proofs.kept.Book.confirm.Goals as goal
 
-pub returns-in-err-index : goal.returns-in-err-index
-returns-in-err-index g c =
+pub returns-in_err-index : goal.returns-in_err-index
+returns-in_err-index g c =
     let p = err_from_is_err_and c.from-residual.result c.from-residual.ensures.1 in
     let b = c.args.self.now in
     let n = c.args.number.0 in
@@ -18,22 +18,22 @@ returns-in-err-index g c =
     let rs = vec_items b.trades in
     let gs = find_grounds t rs n c.args.seat.0 in
     let hs = cover_grounds (over t rs) (trade_of rs n).offer in
-    let e = c.in-err-index.field-0.0 in
-    rw (p.1, p.2) (denied_call g.S.Sheet.table g.S.Sheet.lawful (confirm_answer n c.args.seat.0) (λ (xs : List Trade). confirmed_in xs n) b e (λ ok. denied_first gs hs e (c.in-err-index.ensures.judged ok)))
+    let e = c.in_err-index.field-0.0 in
+    rw (p.1, p.2) (denied_call g.S.Sheet.table g.S.Sheet.lawful (confirm_answer n c.args.seat.0) (λ (xs : List Trade). confirmed_in xs n) b e (λ ok. denied_first gs hs e (c.in_err-index.ensures.judged ok)))
 
-pub returns-in-err-check-cover : goal.returns-in-err-check-cover
-returns-in-err-check-cover g c =
-    let p = err_from_is_err_and c.from-residual-in-err-check-cover.result c.from-residual-in-err-check-cover.ensures.1 in
+pub returns-in_err-check_cover : goal.returns-in_err-check_cover
+returns-in_err-check_cover g c =
+    let p = err_from_is_err_and c.from-residual-in_err-check_cover.result c.from-residual-in_err-check_cover.ensures.1 in
     let b = c.args.self.now in
     let n = c.args.number.0 in
     let t = g.S.Sheet.table b.below in
     let rs = vec_items b.trades in
     let gs = find_grounds t rs n c.args.seat.0 in
     let hs = cover_grounds (over t rs) (trade_of rs n).offer in
-    let found = c.in-ok-index.ensures.found in
-    let is : c.trade-at.result ≡ trade_of rs n = c.trade-at.ensures.is ∙ ap (λ (k : ℕ). get_or rs k no_trade) found.0 in
-    let e = c.in-err-check-cover.field-0.0 in
-    rw (p.1, p.2) (denied_call g.S.Sheet.table g.S.Sheet.lawful (confirm_answer n c.args.seat.0) (λ (xs : List Trade). confirmed_in xs n) b e (λ ok. denied_later gs hs e (c.in-ok-index.ensures.judged ok) (subst (λ (r : Trade). first_of (cover_grounds (over t rs) r.offer) ≡ Some e) is (c.in-err-check-cover.ensures ok))))
+    let found = c.in_ok-index.ensures.found in
+    let is : c.trade_at.result ≡ trade_of rs n = c.trade_at.ensures.is ∙ ap (λ (k : ℕ). get_or rs k no_trade) found.0 in
+    let e = c.in_err-check_cover.field-0.0 in
+    rw (p.1, p.2) (denied_call g.S.Sheet.table g.S.Sheet.lawful (confirm_answer n c.args.seat.0) (λ (xs : List Trade). confirmed_in xs n) b e (λ ok. denied_later gs hs e (c.in_ok-index.ensures.judged ok) (subst (λ (r : Trade). first_of (cover_grounds (over t rs) r.offer) ≡ Some e) is (c.in_err-check_cover.ensures ok))))
 
 pub returns : goal.returns
 returns g c =
@@ -43,11 +43,11 @@ returns g c =
     let rs = vec_items b.trades in
     let gs = find_grounds t rs n c.args.seat.0 in
     let hs = cover_grounds (over t rs) (trade_of rs n).offer in
-    let found = c.in-ok-index.ensures.found in
-    let is : c.trade-at.result ≡ trade_of rs n = c.trade-at.ensures.is ∙ ap (λ (k : ℕ). get_or rs k no_trade) found.0 in
+    let found = c.in_ok-index.ensures.found in
+    let is : c.trade_at.result ≡ trade_of rs n = c.trade_at.ensures.is ∙ ap (λ (k : ℕ). get_or rs k no_trade) found.0 in
     let lt : index_of rs n < length rs = subst (λ (k : ℕ). k < length rs) found.0 found.1 in
     let offered = subst (λ (k : ℕ). (get_or rs k no_trade).state ≡ Offered) found.0 found.2 in
     let items = c.stand.ensures.trades ∙ ap (λ (k : ℕ). set rs k (confirmed (get_or rs k no_trade))) found.0 in
     done_call g.S.Sheet.table g.S.Sheet.lawful (confirm_answer n c.args.seat.0) (λ (xs : List Trade). confirmed_in xs n) b c.stand.new.self c.stand.ensures.below items (λ ok.
-    let none = subst (λ (r : Trade). first_of (cover_grounds (over t rs) r.offer) ≡ None) is (c.in-ok-check-cover.ensures ok) in
-    (accepted gs hs (c.in-ok-index.ensures.judged ok) none, confirm_stays t rs n lt ok.trades offered none))
+    let none = subst (λ (r : Trade). first_of (cover_grounds (over t rs) r.offer) ≡ None) is (c.in_ok-check_cover.ensures ok) in
+    (accepted gs hs (c.in_ok-index.ensures.judged ok) none, confirm_stays t rs n lt ok.trades offered none))

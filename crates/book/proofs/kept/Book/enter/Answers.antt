@@ -6,8 +6,8 @@ use Rattle.book.proofs.Each.{each_push}
 use Rattle.book.proofs.Numbers.{apart_push}
 use Rattle.book.proofs.kept.Book.enter.Goals as goal
 
-pub invariant-of-self : goal.invariant-of-self
-invariant-of-self g c =
+pub invariant_of-self : goal.invariant_of-self
+invariant_of-self g c =
     let rs = vec_items c.args.self.now.trades in
     let y : Trade = record { offer = c.args.offer; state = Offered } in
     let fits : Trade → Type 0 = λ r. Fit r.offer in (
@@ -15,9 +15,9 @@ invariant-of-self g c =
       (
         omega arith,
         (
-          subst (λ (xs : List Trade). Each fits xs) (sym c.push-reserved.ensures.items) (each_push fits rs y c.args.self.now.fit c.requires.fit),
+          subst (λ (xs : List Trade). Each fits xs) (sym c.push_reserved.ensures.items) (each_push fits rs y c.args.self.now.fit c.requires.fit),
           (
-            subst Apart (sym c.push-reserved.ensures.items) (apart_push rs c.args.self.now.apart y c.requires.new),
+            subst Apart (sym c.push_reserved.ensures.items) (apart_push rs c.args.self.now.apart y c.requires.new),
             tt,
           ),
         ),

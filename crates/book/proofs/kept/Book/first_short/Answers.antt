@@ -4,14 +4,14 @@ use Rattle.book.specs.Deals.{short_at}
 use Rattle.book.proofs.Firsts.{first_here, first_next}
 use Rattle.book.proofs.kept.Book.first_short.Goals as goal
 
-pub returns-then-short-at : goal.returns-then-short-at
-returns-then-short-at g c ok =
+pub returns-then-short_at : goal.returns-then-short_at
+returns-then-short_at g c ok =
     let p : ℕ → Bool = short_at (table_of g.S.Sheet.table c.args.self.now) c.args.seat.0 c.args.offer.now in
     let lt : c.loop-hour.hour < c.args.offer.now.last.0 + 1 = omega arith in
-    sym (c.loop-hour.invariant ok ∙ first_here p c.loop-hour.hour (c.args.offer.now.last.0 + 1) lt (sym (c.short-at.ensures ok) ∙ c.if-short-at.true))
+    sym (c.loop-hour.invariant ok ∙ first_here p c.loop-hour.hour (c.args.offer.now.last.0 + 1) lt (sym (c.short_at.ensures ok) ∙ c.if-short_at.true))
 
 pub loop-hour-preserved : goal.loop-hour-preserved
 loop-hour-preserved g c ok =
     let p : ℕ → Bool = short_at (table_of g.S.Sheet.table c.args.self.now) c.args.seat.0 c.args.offer.now in
     let lt : c.loop-hour.hour < c.args.offer.now.last.0 + 1 = omega arith in
-    c.loop-hour.invariant ok ∙ first_next p c.loop-hour.hour (c.args.offer.now.last.0 + 1) lt (sym (c.short-at.ensures ok) ∙ c.if-short-at.false)
+    c.loop-hour.invariant ok ∙ first_next p c.loop-hour.hour (c.args.offer.now.last.0 + 1) lt (sym (c.short_at.ensures ok) ∙ c.if-short_at.false)

@@ -6,14 +6,14 @@ use Rattle.book.proofs.Balances.{offer_keeps}
 use Rattle.book.proofs.Calls.{denied_one, accepted_one, offer_sound, denied_call, done_call}
 use Rattle.book.proofs.kept.Book.offer.Goals as goal
 
-pub returns-in-err-admits : goal.returns-in-err-admits
-returns-in-err-admits g c =
+pub returns-in_err-admits : goal.returns-in_err-admits
+returns-in_err-admits g c =
     let p = err_from_is_err_and c.from-residual.result c.from-residual.ensures.1 in
     let b = c.args.self.now in
     let o = c.args.offer in
     let gs = offer_grounds (g.S.Sheet.table b.below) (vec_items b.trades) o in
-    let e = c.in-err-admits.field-0.0 in
-    rw (p.1, p.2) (denied_call g.S.Sheet.table g.S.Sheet.lawful (offer_answer o) (λ (rs : List Trade). offered rs o) b e (λ ok. denied_one gs e (c.in-err-admits.ensures.judged ok)))
+    let e = c.in_err-admits.field-0.0 in
+    rw (p.1, p.2) (denied_call g.S.Sheet.table g.S.Sheet.lawful (offer_answer o) (λ (rs : List Trade). offered rs o) b e (λ ok. denied_one gs e (c.in_err-admits.ensures.judged ok)))
 
 pub returns : goal.returns
 returns g c =
@@ -22,5 +22,5 @@ returns g c =
     let t = g.S.Sheet.table b.below in
     let rs = vec_items b.trades in
     done_call g.S.Sheet.table g.S.Sheet.lawful (offer_answer o) (λ (xs : List Trade). offered xs o) b c.enter.new.self c.enter.ensures.below c.enter.ensures.trades (λ ok.
-    let none = c.in-ok-admits.ensures.judged ok in
+    let none = c.in_ok-admits.ensures.judged ok in
     (accepted_one (offer_grounds t rs o) none, offer_keeps t rs o (offer_sound t rs o none) ok.trades))

@@ -7,8 +7,8 @@ use Rattle.book.proofs.Each.{each_set}
 use Rattle.book.proofs.Numbers.{apart_confirmed}
 use Rattle.book.proofs.kept.Book.stand.Goals as goal
 
-pub invariant-of-self : goal.invariant-of-self
-invariant-of-self g c =
+pub invariant_of-self : goal.invariant_of-self
+invariant_of-self g c =
     let rs = vec_items c.args.self.now.trades in
     let i = c.args.index in
     let was = get_or rs i no_trade in

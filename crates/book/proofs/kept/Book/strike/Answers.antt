@@ -5,8 +5,8 @@ use Rattle.book.proofs.Each.{each_removed}
 use Rattle.book.proofs.Numbers.{apart_removed}
 use Rattle.book.proofs.kept.Book.strike.Goals as goal
 
-pub invariant-of-self : goal.invariant-of-self
-invariant-of-self g c =
+pub invariant_of-self : goal.invariant_of-self
+invariant_of-self g c =
     let rs = vec_items c.args.self.now.trades in
     let fits : Trade → Type 0 = λ r. Fit r.offer in (
       omega arith,

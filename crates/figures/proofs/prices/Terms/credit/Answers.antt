@@ -3,8 +3,8 @@ use Rattle.figures.specs.Prices.{net_of}
 use Rattle.figures.proofs.Limits.{limits, credit_below}
 use Rattle.figures.proofs.prices.Terms.credit.Goals as goal
 
-pub rounded-cents-requires : goal.rounded-cents-requires
-rounded-cents-requires c =
+pub rounded_cents-requires : goal.rounded_cents-requires
+rounded_cents-requires c =
     let f = c.args.self.now.figures in
     let w = c.args.self.now.within in
     let l = limits f w in

@@ -5,10 +5,10 @@ use Rattle.sheet.specs.Tables.{on_sheet}
 use Rattle.sheet.specs.Awards.{award_at}
 use Rattle.sheet.proofs.awards.AwardSheet.award.Goals as goal
 
-pub returns-then-is-some : goal.returns-then-is-some
-returns-then-is-some c =
+pub returns-then-is_some : goal.returns-then-is_some
+returns-then-is_some c =
     let x = c.args.self.now in
     let on : not (on_sheet x.size.seats x.size.zones c.args.seat.0 c.args.zone.0 c.args.product.0) ≡ false = cc in
     let figure : ltb max_award c.args.kw.0 ≡ false = le-ltb max_award c.args.kw.0 (omega arith) in
-    let taken : is_some (award_at x.awards c.args.seat.0 c.args.zone.0 c.args.product.0) ≡ true = ap (λ (i : ℕ). is_some (get_or x.awards i None)) (sym c.spot-i.ensures) ∙ sym c.is-some.ensures ∙ c.if-is-some.true in
+    let taken : is_some (award_at x.awards c.args.seat.0 c.args.zone.0 c.args.product.0) ≡ true = ap (λ (i : ℕ). is_some (get_or x.awards i None)) (sym c.spot-i.ensures) ∙ sym c.is_some.ensures ∙ c.if-is_some.true in
     record { judged = rw (on, figure, taken); size = refl; granted = tt; entered = refl }

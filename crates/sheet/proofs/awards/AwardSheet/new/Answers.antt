@@ -5,5 +5,5 @@ use Rattle.sheet.specs.Limits.{max_award}
 use Rattle.sheet.specs.Tables.{filled, kilowatts}
 use Rattle.sheet.proofs.awards.AwardSheet.new.Goals as goal
 
-pub invariant-of-result : goal.invariant-of-result
-invariant-of-result c = (refl, ((λ k lt. subst (λ (o : Option Kw). filled (kilowatts o) ≤ max_award) (sym (get_or-replicate 128 k None None lt)) (omega arith)), tt))
+pub invariant_of-result : goal.invariant_of-result
+invariant_of-result c = (refl, ((λ k lt. subst (λ (o : Option Kw). filled (kilowatts o) ≤ max_award) (sym (get_or-replicate 128 k None None lt)) (omega arith)), tt))

@@ -12,7 +12,7 @@ loop-seat-preserved g c ok =
     let here : f c.loop-seat.seat ≡ Some c.in-Some.kw.0 = sym (c.in-Some.ensures ok) in
     let fit = added_fits f c.loop-seat.seat t.seats c.loop-seat.sum c.in-Some.kw.0 lt (c.loop-seat.invariant ok) here in
     let b = (g.met.Self.Sheet.bounded c.args.self.now ok).small w in
-    let e : c.saturating-add-sum.result ≡ c.loop-seat.sum + c.in-Some.kw.0 = omega arith in
+    let e : c.saturating_add-sum.result ≡ c.loop-seat.sum + c.in-Some.kw.0 = omega arith in
     added_next f c.loop-seat.seat _ _ (c.loop-seat.invariant ok) here ∙ ap (λ (n : ℕ). Some n) (sym e)
 
 pub returns-in-None : goal.returns-in-None
