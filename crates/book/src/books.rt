@@ -53,7 +53,7 @@ impl<S: Sheet> Sheet for Book<S> {
 
     ghost lawful = { λ b. Lawful S.Sheet.table S.Sheet.lawful b };
 
-    ghost bounded = { λ x ok. over-bounded (S.Sheet.table x.below) x.trades.items ok.trades (S.Sheet.bounded x.below ok.under) };
+    ghost bounded = { λ x ok. over_bounded (S.Sheet.table x.below) x.trades.items ok.trades (S.Sheet.bounded x.below ok.under) };
 
     fn seats(&self) -> u8 {
         self.below.seats()

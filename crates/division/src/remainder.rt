@@ -25,7 +25,7 @@ impl DivisionRule for LargestRemainder {
 
     ghost shares = { λ _. remainder_of };
 
-    ghost keeps = { λ rule t ls f. remainder-keeps t ls f };
+    ghost keeps = { λ rule t ls f. remainder_keeps t ls f };
 
     fn heading() -> char {
         Self::LETTER
