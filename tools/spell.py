@@ -2,7 +2,7 @@
 """Brings the names of definitions and lemmas to the spelling of today's Rattle: words in snake case, a dash only
 between two names, as in `length-tenths`. Run it at the top of the repository, after the toolchain's own port script.
 
-It goes by whole names, and only by those of NAMES. In .rt files a name with a dash is turned in lines of ghost items alone,
+It goes by whole names, and only by those of NAMES. In .rt files a name with a dash is turned in ghost items alone,
 and in pages only between backticks, so that plain words such as "no load" stay. Functions, types, strings, inputs and
 outputs are not touched. A second run changes nothing.
 """
@@ -249,9 +249,15 @@ PLAIN = turner([n for n in NAMES if "-" not in n])
 def turned(path, text):
     if path.endswith(".antt"):
         return ALL(text)
-    if path.endswith((".rt", ".edit")):
-        lines = text.split("\n")
-        return "\n".join(ALL(l) if l.lstrip().startswith("ghost ") or path.endswith(".edit") else PLAIN(l) for l in lines)
+    if path.endswith(".edit"):
+        return ALL(text)
+    if path.endswith(".rt"):
+        lines, inside = [], False
+        for line in text.split("\n"):
+            inside = inside or line.lstrip().startswith("ghost ")
+            lines.append(ALL(line) if inside else PLAIN(line))
+            inside = inside and not line.rstrip().endswith(";")
+        return "\n".join(lines)
     return re.sub("`[^`\n]+`", lambda m: ALL(m.group(0)), text)
 
 

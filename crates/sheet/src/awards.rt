@@ -78,7 +78,7 @@ impl Sheet for AwardSheet {
     ghost lawful = { λ _. Unit {0} };
 
     ghost bounded = { λ x ok.
-        framed-bounded x.size.seats x.size.zones (λ s w. Some (held_at x.awards s w.zone w.product)) x.size.sized (λ s w e.
+        framed_bounded x.size.seats x.size.zones (λ s w. Some (held_at x.awards s w.zone w.product)) x.size.sized (λ s w e.
         let lt : spot_of s w.zone w.product < 128 = (let sized = x.size.sized in Prim.grind (arith, nat_tests)) in
         x.small (spot_of s w.zone w.product) lt) };
 

@@ -55,7 +55,7 @@ impl<C: Column> Sheet for HourlySheet<C> {
 
     ghost bounded = { λ x ok.
         let ns = C.Column.numbers x.column in
-        framed-bounded x.size.seats x.size.zones (λ s w. reading (slice_get ns (row_of x.size.seats x.size.zones s w))) x.size.sized (λ s w e. reading-le (slice_get ns (row_of x.size.seats x.size.zones s w))) };
+        framed_bounded x.size.seats x.size.zones (λ s w. reading (slice_get ns (row_of x.size.seats x.size.zones s w))) x.size.sized (λ s w e. reading-le (slice_get ns (row_of x.size.seats x.size.zones s w))) };
 
     fn seats(&self) -> u8 {
         self.size.seats

@@ -6,4 +6,7 @@ use Rattle.sheet.specs.Tables.{filled, kilowatts}
 use Rattle.sheet.proofs.awards.AwardSheet.new.Goals as goal
 
 pub invariant_of-result : goal.invariant_of-result
-invariant_of-result c = (refl, ((λ k lt. subst (λ (o : Option Kw). filled (kilowatts o) ≤ max_award) (sym (get_or-replicate 128 k None None lt)) (omega arith)), tt))
+invariant_of-result c = record {
+  long = refl;
+  small = λ k lt. subst (λ (o : Option Kw). filled (kilowatts o) ≤ max_award) (sym (get_or-replicate 128 k None None lt)) (omega arith);
+}
