@@ -24,7 +24,7 @@ returns-in_default g c =
 
 pub returns-in_err-spares : goal.returns-in_err-spares
 returns-in_err-spares g c =
-    let p = err_from_is_err_and c.from-residual.result c.from-residual.ensures.1 in
+    let p = err_from_is_err_and c.from_residual.result c.from_residual.ensures.1 in
     let b = c.args.self.now in
     let n = c.args.number.0 in
     let t = g.S.Sheet.table b.below in

@@ -11,7 +11,7 @@ use Rattle.book.proofs.kept.Book.confirm.Goals as goal
 
 pub returns-in_err-index : goal.returns-in_err-index
 returns-in_err-index g c =
-    let p = err_from_is_err_and c.from-residual.result c.from-residual.ensures.1 in
+    let p = err_from_is_err_and c.from_residual.result c.from_residual.ensures.1 in
     let b = c.args.self.now in
     let n = c.args.number.0 in
     let t = g.S.Sheet.table b.below in
@@ -23,7 +23,7 @@ returns-in_err-index g c =
 
 pub returns-in_err-check_cover : goal.returns-in_err-check_cover
 returns-in_err-check_cover g c =
-    let p = err_from_is_err_and c.from-residual-in_err-check_cover.result c.from-residual-in_err-check_cover.ensures.1 in
+    let p = err_from_is_err_and c.from_residual-in_err-check_cover.result c.from_residual-in_err-check_cover.ensures.1 in
     let b = c.args.self.now in
     let n = c.args.number.0 in
     let t = g.S.Sheet.table b.below in

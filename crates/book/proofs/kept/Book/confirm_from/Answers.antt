@@ -12,7 +12,7 @@ use Rattle.book.proofs.kept.Book.confirm_from.Goals as goal
 
 pub returns-in_err-index : goal.returns-in_err-index
 returns-in_err-index g c =
-    let p = err_from_is_err_and c.from-residual.result c.from-residual.ensures.1 in
+    let p = err_from_is_err_and c.from_residual.result c.from_residual.ensures.1 in
     let b = c.args.self.now in
     let n = c.args.number.0 in
     let t = g.S.Sheet.table b.below in
@@ -22,8 +22,8 @@ returns-in_err-index g c =
     let e = c.in_err-index.field-0.0 in
     rw (p.1, p.2) (denied_call g.S.Sheet.table g.S.Sheet.lawful (confirm_answer_from c.args.from.0 n c.args.seat.0) (λ (xs : List Trade). confirmed_in xs n) b e (λ ok. denied-first-from gs hs (begins_before (trade_of rs n).offer c.args.from.0) e (c.in_err-index.ensures.judged ok)))
 
-pub returns-then-offer_from : goal.returns-then-offer_from
-returns-then-offer_from g c =
+pub returns-then-offer-from : goal.returns-then-offer-from
+returns-then-offer-from g c =
     let b = c.args.self.now in
     let n = c.args.number.0 in
     let t = g.S.Sheet.table b.below in
@@ -32,12 +32,12 @@ returns-then-offer_from g c =
     let hs = cover_grounds (over t rs) (trade_of rs n).offer in
     let found = c.in_ok-index.ensures.found in
     let is : c.trade_at.result ≡ trade_of rs n = c.trade_at.ensures.is ∙ ap (λ (k : ℕ). get_or rs k no_trade) found.0 in
-    let late = ap (λ (r : Trade). begins_before r.offer c.args.from.0) (sym is) ∙ lt-ltb c.trade_at.result.offer.first.0 c.args.from.0 c.if-offer_from.true in
+    let late = ap (λ (r : Trade). begins_before r.offer c.args.from.0) (sym is) ∙ lt-ltb c.trade_at.result.offer.first.0 c.args.from.0 c.if-offer-from.true in
     held_call g.S.Sheet.table g.S.Sheet.lawful (confirm_answer_from c.args.from.0 n c.args.seat.0) (λ (xs : List Trade). confirmed_in xs n) b (λ ok. held-from gs hs (begins_before (trade_of rs n).offer c.args.from.0) (c.in_ok-index.ensures.judged ok) late)
 
 pub returns-in_err-check_cover : goal.returns-in_err-check_cover
 returns-in_err-check_cover g c =
-    let p = err_from_is_err_and c.from-residual-in_err-check_cover.result c.from-residual-in_err-check_cover.ensures.1 in
+    let p = err_from_is_err_and c.from_residual-in_err-check_cover.result c.from_residual-in_err-check_cover.ensures.1 in
     let b = c.args.self.now in
     let n = c.args.number.0 in
     let t = g.S.Sheet.table b.below in
@@ -46,7 +46,7 @@ returns-in_err-check_cover g c =
     let hs = cover_grounds (over t rs) (trade_of rs n).offer in
     let found = c.in_ok-index.ensures.found in
     let is : c.trade_at.result ≡ trade_of rs n = c.trade_at.ensures.is ∙ ap (λ (k : ℕ). get_or rs k no_trade) found.0 in
-    let early = ap (λ (r : Trade). begins_before r.offer c.args.from.0) (sym is) ∙ le-ltb c.trade_at.result.offer.first.0 c.args.from.0 c.if-offer_from.false in
+    let early = ap (λ (r : Trade). begins_before r.offer c.args.from.0) (sym is) ∙ le-ltb c.trade_at.result.offer.first.0 c.args.from.0 c.if-offer-from.false in
     let e = c.in_err-check_cover.field-0.0 in
     rw (p.1, p.2) (denied_call g.S.Sheet.table g.S.Sheet.lawful (confirm_answer_from c.args.from.0 n c.args.seat.0) (λ (xs : List Trade). confirmed_in xs n) b e (λ ok. denied-later-from gs hs (begins_before (trade_of rs n).offer c.args.from.0) e (c.in_ok-index.ensures.judged ok) early (subst (λ (r : Trade). first_of (cover_grounds (over t rs) r.offer) ≡ Some e) is (c.in_err-check_cover.ensures ok))))
 
@@ -60,7 +60,7 @@ returns g c =
     let hs = cover_grounds (over t rs) (trade_of rs n).offer in
     let found = c.in_ok-index.ensures.found in
     let is : c.trade_at.result ≡ trade_of rs n = c.trade_at.ensures.is ∙ ap (λ (k : ℕ). get_or rs k no_trade) found.0 in
-    let early = ap (λ (r : Trade). begins_before r.offer c.args.from.0) (sym is) ∙ le-ltb c.trade_at.result.offer.first.0 c.args.from.0 c.if-offer_from.false in
+    let early = ap (λ (r : Trade). begins_before r.offer c.args.from.0) (sym is) ∙ le-ltb c.trade_at.result.offer.first.0 c.args.from.0 c.if-offer-from.false in
     let lt : index_of rs n < length rs = subst (λ (k : ℕ). k < length rs) found.0 found.1 in
     let offered = subst (λ (k : ℕ). (get_or rs k no_trade).state ≡ Offered) found.0 found.2 in
     let items = c.stand.ensures.trades ∙ ap (λ (k : ℕ). set rs k (confirmed (get_or rs k no_trade))) found.0 in

@@ -10,16 +10,10 @@ pub invariant_of-self : goal.invariant_of-self
 invariant_of-self g c =
     let rs = vec_items c.args.self.now.trades in
     let y : Trade = record { offer = c.args.offer; state = Offered } in
-    let fits : Trade → Type 0 = λ r. Fit r.offer in (
-      omega arith,
-      (
-        omega arith,
-        (
-          subst (λ (xs : List Trade). Each fits xs) (sym c.push_reserved.ensures.items) (each_push fits rs y c.args.self.now.fit c.requires.fit),
-          (
-            subst Apart (sym c.push_reserved.ensures.items) (apart_push rs c.args.self.now.apart y c.requires.new),
-            tt,
-          ),
-        ),
-      ),
-    )
+    let fits : Trade → Type 0 = λ r. Fit r.offer in
+    record {
+      few = omega arith;
+      room = omega arith;
+      fit = subst (λ (xs : List Trade). Each fits xs) (sym c.push_reserved.ensures.items) (each_push fits rs y c.args.self.now.fit c.requires.fit);
+      apart = subst Apart (sym c.push_reserved.ensures.items) (apart_push rs c.args.self.now.apart y c.requires.new);
+    }

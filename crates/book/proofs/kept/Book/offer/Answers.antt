@@ -8,7 +8,7 @@ use Rattle.book.proofs.kept.Book.offer.Goals as goal
 
 pub returns-in_err-admits : goal.returns-in_err-admits
 returns-in_err-admits g c =
-    let p = err_from_is_err_and c.from-residual.result c.from-residual.ensures.1 in
+    let p = err_from_is_err_and c.from_residual.result c.from_residual.ensures.1 in
     let b = c.args.self.now in
     let o = c.args.offer in
     let gs = offer_grounds (g.S.Sheet.table b.below) (vec_items b.trades) o in

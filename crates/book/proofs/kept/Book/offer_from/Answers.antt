@@ -9,19 +9,19 @@ use Rattle.book.proofs.kept.Book.offer_from.Goals as goal
 
 pub returns-in_err-admits : goal.returns-in_err-admits
 returns-in_err-admits g c =
-    let p = err_from_is_err_and c.from-residual.result c.from-residual.ensures.1 in
+    let p = err_from_is_err_and c.from_residual.result c.from_residual.ensures.1 in
     let b = c.args.self.now in
     let o = c.args.offer in
     let gs = offer_grounds (g.S.Sheet.table b.below) (vec_items b.trades) o in
     let e = c.in_err-admits.field-0.0 in
     rw (p.1, p.2) (denied_call g.S.Sheet.table g.S.Sheet.lawful (offer_answer_from c.args.from.0 o) (λ (rs : List Trade). offered rs o) b e (λ ok. denied-first-from gs [] (begins_before o c.args.from.0) e (c.in_err-admits.ensures.judged ok)))
 
-pub returns-then-offer_from : goal.returns-then-offer_from
-returns-then-offer_from g c =
+pub returns-then-offer-from : goal.returns-then-offer-from
+returns-then-offer-from g c =
     let b = c.args.self.now in
     let o = c.args.offer in
     let gs = offer_grounds (g.S.Sheet.table b.below) (vec_items b.trades) o in
-    held_call g.S.Sheet.table g.S.Sheet.lawful (offer_answer_from c.args.from.0 o) (λ (rs : List Trade). offered rs o) b (λ ok. held-from gs [] (begins_before o c.args.from.0) (c.in_ok-admits.ensures.judged ok) (lt-ltb o.first.0 c.args.from.0 c.if-offer_from.true))
+    held_call g.S.Sheet.table g.S.Sheet.lawful (offer_answer_from c.args.from.0 o) (λ (rs : List Trade). offered rs o) b (λ ok. held-from gs [] (begins_before o c.args.from.0) (c.in_ok-admits.ensures.judged ok) (lt-ltb o.first.0 c.args.from.0 c.if-offer-from.true))
 
 pub returns : goal.returns
 returns g c =
@@ -31,4 +31,4 @@ returns g c =
     let rs = vec_items b.trades in
     done_call g.S.Sheet.table g.S.Sheet.lawful (offer_answer_from c.args.from.0 o) (λ (xs : List Trade). offered xs o) b c.enter.new.self c.enter.ensures.below c.enter.ensures.trades (λ ok.
     let none = c.in_ok-admits.ensures.judged ok in
-    (accepted-from (offer_grounds t rs o) [] (begins_before o c.args.from.0) none (le-ltb o.first.0 c.args.from.0 c.if-offer_from.false) refl, offer_keeps t rs o (offer_sound t rs o none) ok.trades))
+    (accepted-from (offer_grounds t rs o) [] (begins_before o c.args.from.0) none (le-ltb o.first.0 c.args.from.0 c.if-offer-from.false) refl, offer_keeps t rs o (offer_sound t rs o none) ok.trades))

@@ -8,16 +8,10 @@ use Rattle.book.proofs.kept.Book.strike.Goals as goal
 pub invariant_of-self : goal.invariant_of-self
 invariant_of-self g c =
     let rs = vec_items c.args.self.now.trades in
-    let fits : Trade → Type 0 = λ r. Fit r.offer in (
-      omega arith,
-      (
-        omega arith,
-        (
-          subst (λ (xs : List Trade). Each fits xs) (sym c.remove.ensures.items) (each_removed fits rs c.args.index c.requires.here c.args.self.now.fit),
-          (
-            subst Apart (sym c.remove.ensures.items) (apart_removed rs c.args.self.now.apart c.args.index c.requires.here),
-            tt,
-          ),
-        ),
-      ),
-    )
+    let fits : Trade → Type 0 = λ r. Fit r.offer in
+    record {
+      few = omega arith;
+      room = omega arith;
+      fit = subst (λ (xs : List Trade). Each fits xs) (sym c.remove.ensures.items) (each_removed fits rs c.args.index c.requires.here c.args.self.now.fit);
+      apart = subst Apart (sym c.remove.ensures.items) (apart_removed rs c.args.self.now.apart c.args.index c.requires.here);
+    }
