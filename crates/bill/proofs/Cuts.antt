@@ -2,7 +2,7 @@
 use Rattle.std.proofs.Common.{◌≡◌, ℕ, suc, ◌+◌, ◌-◌, ◌<◌, ◌≤◌, Bool, true, not, List, [], ◌∷◌, ◌++◌, map, length, take, drop, ℤ, is_some, Some, None, Option, sym, refl, ap, ◌∙◌, subst, inl, inr, append_assoc, append-nil, one-add, arith}
 use Rattle.std.specs.Int.{saturate_to_bits}
 use Rattle.std.specs.Option.{option_map}
-use Rattle.std.specs.List.{prefix_len, AllByRecursion as All}
+use Rattle.std.specs.List.{prefix_len, AllByRecursion}
 use Rattle.std.proofs.lemmas.List.{length-append, length_push, length-take, map_push, take_at, get_or_at}
 use Rattle.std.proofs.lemmas.Bool.{cases_Bool, cond-true, cond-false, not_from_true, not_from_false}
 use Rattle.bill.specs.Figures.{figure_of}
@@ -67,7 +67,7 @@ none_from : (o : Option ℤ) → option_map (saturate_to_bits 63) o ≡ None →
 none_from None e = refl
 none_from (Some x) e = cc
 
-all_figures : (fs : List (List ℕ)) (zs : List ℤ) → Values fs zs → All (λ f. is_some (figure_of f) ≡ true) fs × (length fs ≡ length zs)
+all_figures : (fs : List (List ℕ)) (zs : List ℤ) → Values fs zs → AllByRecursion (λ f. is_some (figure_of f) ≡ true) fs × (length fs ≡ length zs)
 all_figures [] [] e = (tt, refl)
 all_figures [] (z ∷ zs) e = let w : ◌≡◌ {A = ℕ} 0 1 = cc in absurd (omega arith)
 all_figures (f ∷ fs) [] e = let w : ◌≡◌ {A = ℕ} 0 1 = cc in absurd (omega arith)
@@ -101,6 +101,6 @@ fails line zs rest f after h e v =
     subst (λ (fs : List (List ℕ)). Failing fs (NotFigure (length zs + 1))) (sym split) (
       omega arith,
       omega arith,
-      subst (All (λ f. is_some (figure_of f) ≡ true)) (sym (take_at h.done (f ∷ fields_of after) (length zs + 1 - 1) back)) before.0,
+      subst (AllByRecursion (λ f. is_some (figure_of f) ≡ true)) (sym (take_at h.done (f ∷ fields_of after) (length zs + 1 - 1) back)) before.0,
       ap figure_of (get_or_at h.done f (fields_of after) [] (length zs + 1 - 1) back) ∙ none_from (figure_of f) (sym v),
     )

@@ -12,7 +12,7 @@ use Rattle.std.specs.Prelude.{◌≡◌, ℕ, ◌-◌, ◌<◌, ◌≤◌, Bool,
 use Rattle.std.proofs.Common.{lit<, lit≤}
 use Rattle.std.specs.Int.{saturate_to_bits}
 use Rattle.std.specs.Option.{option_map}
-use Rattle.std.specs.List.{AllByRecursion as All}
+use Rattle.std.specs.List.{AllByRecursion}
 use Rattle.bill.specs.Figures.{figure_of}
 use Rattle.bill.specs.declared.fields.LineFault.{LineFault}
 use Rattle.bill.specs.declared.fields.LineFault.TheVariants.{Blank, NotFigure, NoMemory}
@@ -42,7 +42,7 @@ abbrev pub Values : List (List ℕ) → List ℤ → Type 0
 Values fs zs = map value_of fs ≡ map Some zs
 
 abbrev pub Failing : List (List ℕ) → LineFault → Type 0
-Failing fs (NotFigure k) = (0 < k) × (k ≤ length fs) × All (λ f. is_some (figure_of f) ≡ true) (take (k - 1) fs) × (figure_of (slice_index_or fs (k - 1) []) ≡ None)
+Failing fs (NotFigure k) = (0 < k) × (k ≤ length fs) × AllByRecursion (λ f. is_some (figure_of f) ≡ true) (take (k - 1) fs) × (figure_of (slice_index_or fs (k - 1) []) ≡ None)
 Failing fs Blank = ⊥
 Failing fs NoMemory = Unit {0}
 
