@@ -216,6 +216,7 @@ NAMES = {
     'sumTo-same': 'sum_to_same',
     'sumTo-suc': 'sum_to_suc',
     'sumTo-times': 'sum_to_times',
+    'sumℤ': 'sum_ℤ',
     'termGrounds': 'term_grounds',
     'then-seat': 'then_seat',
     'then-zone': 'then_zone',

@@ -1,13 +1,13 @@
 -- An hour's bill: its line read, and the answers to it as text. Assumes nothing.
 --   load_of z         the load that a figure gives; one below 0 is beyond its limit, as is the largest and one more
---   Billed fs z ls   the fields fs are a bill: the first writes the total z, the others the loads ls, of any size
---   Answered fs bs   the fields are a bill, and bs is what the running cut answers to it, and then the largest remainder, a line each
---   Unread fs e      the fault e is right of the fields fs
+--   Billed fs z ls    the fields fs are a bill: the first writes the total z, the others the loads ls, of any size
+--   Answered fs bs    the fields are a bill, and bs is what the running cut answers to it, and then the largest remainder, a line each
+--   Unread fs e       the fault e is right of the fields fs
 --   answer_text c f z ls
---                    what the rule with the letter c and the meaning f answers: its shares of the signed total z, or its denial
---   answered c o zs  the same, where the ground o was met or none, and the shares are zs
---   carried z        a figure of 64 bits as a load of 32: one that no load holds as the largest
---   ReadAs fs t ls   t and ls are what is carried of the figures that the fields fs write
+--                     what the rule with the letter c and the meaning f answers: its shares of the signed total z, or its denial
+--   answered c o zs   the same, where the ground o was met or none, and the shares are zs
+--   carried z         a figure of 64 bits as a load of 32: one that no load holds as the largest
+--   ReadAs fs t ls    t and ls are what is carried of the figures that the fields fs write
 use Rattle.std.specs.Prelude.{◌≡◌, ℕ, suc, min, List, [], ◌∷◌, ◌++◌, map, length, ℤ, pos, negsuc, Some, None, codes, Option, refl}
 use Rattle.std.proofs.Math.Utf8.{encode}
 use Rattle.std.specs.Int.{saturate_to_bits}

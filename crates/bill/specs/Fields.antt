@@ -1,13 +1,13 @@
 -- The fields of a line, and what reading them answers. Assumes nothing.
---   blank b            b is a space, a tab or a carriage return
+--   blank b             b is a space, a tab or a carriage return
 --   of_kind w b         b is blank, or, where w is false, is not
---   closed f fs        the fields fs after the field f; an empty f is no field
+--   closed f fs         the fields fs after the field f; an empty f is no field
 --   fields_after f bs   the fields of bs, the first of them begun by f
 --   fields_of bs        the fields of bs, in order: its longest runs of bytes that are not blank
 --   value_of f          the value of the figure that f writes, carried as the nearest i64
---   Values fs zs       each of the fields fs is a figure, and zs are their values in order
---   Failing fs e       the fault e is right of the fields fs: at NotFigure k the first k - 1 are figures and the k-th is none;
---                      a blank line is no fault here, since it gives no figures; NoMemory says nothing
+--   Values fs zs        each of the fields fs is a figure, and zs are their values in order
+--   Failing fs e        the fault e is right of the fields fs: at NotFigure k the first k - 1 are figures and the k-th is none;
+--                       a blank line is no fault here, since it gives no figures; NoMemory says nothing
 use Rattle.std.specs.Prelude.{◌≡◌, ℕ, ◌-◌, ◌<◌, ◌≤◌, Bool, true, false, cond, not, ◌||◌, List, [], ◌∷◌, ◌++◌, map, length, take, ℤ, pos, negsuc, is_some, Some, None, codes, Option, ◌==◌, slice_index_or, refl}
 use Rattle.std.proofs.Common.{lit<, lit≤}
 use Rattle.std.specs.Int.{saturate_to_bits}

@@ -1,10 +1,10 @@
 -- A book over a sheet: what it means, when it is lawful, and what one call of it is. Assumes nothing.
 --   table_of b   what a book means: the table of the sheet below, under the trades
---   Lawful b    the sheet below is lawful and the trades are balanced on it
---   AddsUp b    at every place all seats together hold in the book what they hold below
+--   Lawful b     the sheet below is lawful and the trades are balanced on it
+--   AddsUp b     at every place all seats together hold in the book what they hold below
 --   Called answer new b r c
---               a call of the book b answered r and left c; answer says what it answers over the table below and the
---               trades, and new what becomes of the trades where it is done
+--                a call of the book b answered r and left c; answer says what it answers over the table below and the
+--                trades, and new what becomes of the trades where it is done
 use Rattle.std.specs.Prelude.{◌≡◌, List, vec_items, Result}
 use Rattle.sheet.specs.Tables.{Place, Table, total_at}
 use Rattle.book.specs.Trades.{over, Balanced}

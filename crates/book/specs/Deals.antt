@@ -6,36 +6,36 @@
 --   in_book rs n         some trade has the number n
 --   trade_of rs n        that trade
 --   first_hour p a n     the first of n hours from hour a on at which p holds
---   first_of_hours o p    the same over the hours of the offer o
+--   first_of_hours o p   the same over the hours of the offer o
 --   is_blank a           the cell a is blank
---   lacks k a           the cell a holds less than k kW, or is blank
+--   lacks k a            the cell a holds less than k kW, or is blank
 --   blank_at v o h       in hour h the cell of the offer's seller or of its buyer is blank
 --   short_at v s o h     in hour h the seat s holds less than the offer's kW
 --   first_blank v o      the first hour of the offer at which a party's cell is blank
 --   first_short v s o    the first hour of the offer at which the seat s is short
 --   hour_of h            the number of an hour, if there is one
 --   at_hour e h          a ground that is met where there is such an hour, and names it
---   beyond t o          a seat, zone, product or hour of the offer is beyond the book
---   misfigured o        its kW are beyond their limits
---   void o              it has one seat on both sides, or its first hour after its last
+--   beyond t o           a seat, zone, product or hour of the offer is beyond the book
+--   misfigured o         its kW are beyond their limits
+--   void o               it has one seat on both sides, or its first hour after its last
 --   offer_grounds t rs o the grounds on which an offer is denied
 --   find_grounds t rs n s
---                       the first grounds on which a confirm of the trade n by the seat s is denied
+--                        the first grounds on which a confirm of the trade n by the seat s is denied
 --   cover_grounds v o    the grounds that remain: on which a trade offered as o is not covered
 --   known_grounds rs n   the first ground on which a cancel of the trade n is denied
 --   undo_grounds v r     the ground that remains: the buyer holds less than a confirmed trade r
 --   begins_before o h    the offer begins before hour h
 --   denied_by e r        a denial by the fault e, if there is one, and else the answer r
---   decided gs          the answer to a call under the grounds gs: a denial by the first one met, else it is done
+--   decided gs           the answer to a call under the grounds gs: a denial by the first one met, else it is done
 --   decided_from gs b hs the same where a layer above holds the call back if b: after the grounds gs, before hs
 --   offer_answer o, confirm_answer n s, cancel_answer n
---                       what a book by itself answers, over the table below and its trades
+--                        what a book by itself answers, over the table below and its trades
 --   offer_answer_from h o, confirm_answer_from h n s, cancel_answer_from h n
---                       the same where a layer above holds back what begins before hour h
+--                        the same where a layer above holds back what begins before hour h
 --   deal_of r            a plain answer among those of a call that may be held back
---   after r new was     new where the call was done, and else was
---   NotDone r P         P, where the call was not done
---   offered rs o        the trades rs with the offer o entered
+--   after r new was      new where the call was done, and else was
+--   NotDone r P          P, where the call was not done
+--   offered rs o         the trades rs with the offer o entered
 --   confirmed_in rs n    the trades rs with the trade n confirmed
 --   cancelled_in rs n    the trades rs without the trade n
 use Rattle.std.specs.Prelude.{◌≡◌, ℕ, zero, suc, ◌+◌, ◌-◌, Bool, true, false, cond, not, ◌||◌, List, [], ◌∷◌, ◌++◌, length, Some, None, Ok, Err, Option, Result, ◌==◌, nat_le, nat_lt, slice_index_or, slice_set, refl}

@@ -1,25 +1,25 @@
 -- Trades, and what those that stand do to a table. Assumes nothing.
 --   no_trade         what a list of trades is read as beyond its end
---   confirmed r     the trade r, confirmed
+--   confirmed r      the trade r, confirmed
 --   is_confirmed g   the state g is that of a confirmed trade
 --   turn_of g e      what the event e is to a trade in the state g: it is confirmed once; cancelled, it is withdrawn while
---                   offered and undone once confirmed
+--                    offered and undone once confirmed
 --   after_turn r e   the trade r when the event e has happened to it; one that is cancelled leaves the book as it is
---   covers o h      the hour h is one of those of the offer o, the first and the last among them
---   reaches o w     the offer o is of the zone and product of the place w, and covers its hour
---   stands w r      the trade r is confirmed and reaches the place w
---   buys s w r      the kW that the trade r, if it stands there, brings to the seat s at the place w
---   sells s w r     the kW that it takes from it
+--   covers o h       the hour h is one of those of the offer o, the first and the last among them
+--   reaches o w      the offer o is of the zone and product of the place w, and covers its hour
+--   stands w r       the trade r is confirmed and reaches the place w
+--   buys s w r       the kW that the trade r, if it stands there, brings to the seat s at the place w
+--   sells s w r      the kW that it takes from it
 --   bought_at s w rs the standing purchases of a seat at a place
 --   sold_at s w rs   the standing sales
---   shifted b s a   a cell with b kW bought and s kW sold; a blank stays a blank
---   over t rs       the table t under the trades rs
---   Each P rs       P holds of each of the trades rs
---   Fit o           the offer's kW are 1 to the limit, and its hours are in order and within the limit
---   Apart rs        no two of the trades rs have one number
---   Sound t o       the parties of the offer o are two seats of the table
---   Balanced t rs   the trades rs are sound on the table t: no seat has sold more than it holds and has bought, and
---                   nothing is traded in a blank cell
+--   shifted b s a    a cell with b kW bought and s kW sold; a blank stays a blank
+--   over t rs        the table t under the trades rs
+--   Each P rs        P holds of each of the trades rs
+--   Fit o            the offer's kW are 1 to the limit, and its hours are in order and within the limit
+--   Apart rs         no two of the trades rs have one number
+--   Sound t o        the parties of the offer o are two seats of the table
+--   Balanced t rs    the trades rs are sound on the table t: no seat has sold more than it holds and has bought, and
+--                    nothing is traded in a blank cell
 use Rattle.std.specs.Prelude.{◌≡◌, ℕ, ◌+◌, ◌-◌, ◌<◌, ◌≤◌, Bool, true, false, cond, ◌&&◌, List, [], ◌∷◌, length, get_or, Some, None, Ok, Err, sum_by, Option, Result, ◌==◌, ◌≢◌, nat_le, slice_index_or, refl}
 use Rattle.figures.specs.Limits.{max_hours}
 use Rattle.sheet.specs.Limits.{max_kw}

@@ -10,7 +10,7 @@ use Rattle.figures.specs.Grounds.{first_of}
 use Rattle.figures.specs.Rounding.{apart}
 use Rattle.figures.specs.declared.units.Cents.{Cents}
 use Rattle.division.specs.Columns.{cents_of, amounts, negated}
-use Rattle.division.specs.Rules.{rule_grounds, signed_grounds, signed_shares, sumℤ, Fair, Lawful, Balanced, Divided, SignedDivided}
+use Rattle.division.specs.Rules.{rule_grounds, signed_grounds, signed_shares, sum_ℤ, Fair, Lawful, Balanced, Divided, SignedDivided}
 use Rattle.division.specs.declared.rules.DivisionFault.{DivisionFault}
 use Rattle.division.proofs.Asked.{fair}
 
@@ -27,7 +27,7 @@ negated_cents xs =
 pub size_grounds_lem : (z : ℤ) (ls : List ℕ) (n : ℕ) → nat_abs z ≢ 0 → first_of (signed_grounds z ls n) ≡ first_of (rule_grounds (pos (nat_abs z)) ls n)
 size_grounds_lem z ls n h = grind (arith, nat_tests)
 
-sum_none : (ls : List ℕ) → sumℤ (map (λ (_ : ℕ). pos 0) ls) ≡ pos 0
+sum_none : (ls : List ℕ) → sum_ℤ (map (λ (_ : ℕ). pos 0) ls) ≡ pos 0
 sum_none [] = refl
 sum_none (l ∷ ls) = sum_none ls
 

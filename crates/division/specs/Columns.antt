@@ -1,6 +1,6 @@
 -- The columns of a division as lists of plain numbers. Assumes nothing.
 --   tenths loads   the figures of the loads
---   cents_of zs     a column of these figures in cents
+--   cents_of zs    a column of these figures in cents
 --   amounts col    the figures of a column in cents
 --   negated c      the opposite amount
 use Rattle.std.specs.Prelude.{ℕ, List, map, ℤ, neg_ℤ}

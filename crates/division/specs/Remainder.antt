@@ -3,15 +3,15 @@
 --   rest_at t ls s    the remainder of that division
 --   rests_of t ls     the remainders of all seats
 --   left_over t ls    the cents that are left when every seat has its share rounded down
---   stands rs k s    by the remainders rs, seat k stands before seat s: its remainder is larger, or the same and k the lower seat
---   ahead rs s       how many seats stand before seat s
+--   stands rs k s     by the remainders rs, seat k stands before seat s: its remainder is larger, or the same and k the lower seat
+--   ahead rs s        how many seats stand before seat s
 --   extra_at t ls s   one cent more where fewer seats stand before s than cents are left
 --   remainder_at t ls s
---                    the share of seat s: rounded down, and that cent
+--                     the share of seat s: rounded down, and that cent
 --   remainder_of t ls all shares
 --   LargestFirst t ls xs
---                    the shares xs, in the words of the rule: each is rounded down or one cent more, together they are the total, and
---                    where one seat has the cent and another has not, it has the larger remainder, or the same and the lower number
+--                     the shares xs, in the words of the rule: each is rounded down or one cent more, together they are the total, and
+--                     where one seat has the cent and another has not, it has the larger remainder, or the same and the lower number
 --   LargestRemainders the shares of every fair division are so
 use Rattle.std.specs.Prelude.{◌≡◌, ℕ, ◌+◌, ◌-◌, ◌*◌, ◌/◌, ◌%◌, ◌<◌, Bool, cond, ◌&&◌, ◌||◌, ◌⊎◌, List, [], ◌∷◌, map, length, sum, count_by, ◌==◌, nat_lt, slice_index, refl}
 use Rattle.std.specs.List.{range_with_len}

@@ -1,22 +1,22 @@
 -- What a rule that divides a total among seats by their loads owes. Assumes nothing.
---   heavy ls             some load is above its limit
---   unfit ls n           the loads, or a share column of length n, are not what a division takes
---   rule_grounds z ls n   the grounds on which a rule denies the total z
+--   heavy ls               some load is above its limit
+--   unfit ls n             the loads, or a share column of length n, are not what a division takes
+--   rule_grounds z ls n    the grounds on which a rule denies the total z
 --   signed_grounds z ls n the same for the division of a signed total
---   ground_of e           number, layer and place of a fault
---   after r new was      new where the answer r is not a denial, and else was
+--   ground_of e            number, layer and place of a fault
+--   after r new was        new where the answer r is not a denial, and else was
 --   Divided gs new was r out
---                        under the grounds gs a call answered r; its share column, was before it, is out after it:
---                        new where the call was done, and else unaltered
+--                          under the grounds gs a call answered r; its share column, was before it, is out after it:
+--                          new where the call was done, and else unaltered
 --   RuleDivided f z ls was r out
---                        the same of a rule that means f, asked for the shares of the total z over the loads ls
---   Fair t ls            a total and loads that a rule divides
---   Lawful t ls xs       the shares xs keep the law of a rule
---   signed_shares f z ls  the shares of a signed total, f giving those of its size
---   sumℤ zs              the sum of signed shares
---   Balanced z ls zs     signed shares keep the law
+--                          the same of a rule that means f, asked for the shares of the total z over the loads ls
+--   Fair t ls              a total and loads that a rule divides
+--   Lawful t ls xs         the shares xs keep the law of a rule
+--   signed_shares f z ls   the shares of a signed total, f giving those of its size
+--   sum_ℤ zs               the sum of signed shares
+--   Balanced z ls zs       signed shares keep the law
 --   SignedDivided f z ls was r out
---                        the same of a division of the signed total z by a rule that means f; the shares keep the law
+--                          the same of a division of the signed total z by a rule that means f; the shares keep the law
 use Rattle.std.specs.Prelude.{◌≡◌, ℕ, zero, suc, ◌*◌, ◌<◌, ◌≤◌, Bool, false, not, ◌&&◌, ◌||◌, List, [], ◌∷◌, map, length, ℤ, pos, negsuc, ◌+ℤ◌, ◌-ℤ◌, ◌*ℤ◌, neg_ℤ, IfOk, Some, None, Ok, Err, fold, sum, Result, ◌==◌, int_lt, nat_lt, slice_index, slice_index_or, unsigned_abs, refl}
 use Rattle.figures.specs.Grounds.{first_of, Judged}
 use Rattle.figures.specs.Rounding.{apart}
@@ -75,12 +75,12 @@ signed_shares f (pos zero) ls = map (λ _. pos 0) ls
 signed_shares f (pos (suc n)) ls = map pos (f (suc n) ls)
 signed_shares f (negsuc n) ls = map (λ x. neg_ℤ (pos x)) (f (suc n) ls)
 
-abbrev pub sumℤ : List ℤ → ℤ
-sumℤ zs = fold ◌+ℤ◌ (pos 0) zs
+abbrev pub sum_ℤ : List ℤ → ℤ
+sum_ℤ zs = fold ◌+ℤ◌ (pos 0) zs
 
 pub record Balanced (z : ℤ) (ls : List ℕ) (zs : List ℤ) : Type 0 where
   pub many : length zs ≡ length ls
-  pub adds : sumℤ zs ≡ z
+  pub adds : sum_ℤ zs ≡ z
   pub near : (s : ℕ) → s < length ls → 0 < sum ls → unsigned_abs (slice_index_or zs s (pos 0) *ℤ pos (sum ls) -ℤ z *ℤ pos (slice_index ls s)) < sum ls
 
 pub record SignedDivided (f : ℕ → List ℕ → List ℕ) (z : ℤ) (ls : List ℕ) (was : List Cents) (r : Result Unit DivisionFault) (out : List Cents) : Type 0 where

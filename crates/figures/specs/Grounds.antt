@@ -1,6 +1,6 @@
 -- Grounds for denial: what a fault says of itself, and how a list of grounds is judged. Assumes nothing.
---   letter_of l    the letter that stands for a layer
---   first_of gs    the fault of the first ground that is met, in the order of the list
+--   letter_of l   the letter that stands for a layer
+--   first_of gs   the fault of the first ground that is met, in the order of the list
 --   Judged gs r   the answer r is what the grounds gs call for: a denial by the first one met, and else none
 use Rattle.std.specs.Prelude.{◌≡◌, ℕ, Bool, true, false, cond, List, [], ◌∷◌, Some, None, Ok, Err, Option, Result, refl}
 use Rattle.figures.specs.declared.grounds.Layer.{Layer}

@@ -1,7 +1,7 @@
 -- The limits of a month's size and terms. Assumes nothing.
 --   max_seats    the most seats
 --   max_zones    the most zones
---   products    how many products there are
+--   products     how many products there are
 --   max_hours    the most delivery hours
 --   max_price    the highest price, in cents for a MW and month
 --   max_factor   the highest penalty factor, in hundredths

@@ -1,11 +1,11 @@
 -- The terms of a month, and what a kilowatt earns or costs under them. Assumes nothing.
---   beyond f         a term lies beyond its limit; a month has at least one hour
---   term_grounds f    the grounds on which terms are denied
---   ground_of e       number, layer and place of a fault in the terms
---   price_of f p      the clearing price of product p
---   net_of f p        the net price of product p, in cents for a MW and month
---   credit_of f p k   the credit in cents for k kW of product p in one hour
---   penalty_of f p k  the penalty in cents for k failed kW of product p in one hour
+--   beyond f           a term lies beyond its limit; a month has at least one hour
+--   term_grounds f     the grounds on which terms are denied
+--   ground_of e        number, layer and place of a fault in the terms
+--   price_of f p       the clearing price of product p
+--   net_of f p         the net price of product p, in cents for a MW and month
+--   credit_of f p k    the credit in cents for k kW of product p in one hour
+--   penalty_of f p k   the penalty in cents for k failed kW of product p in one hour
 use Rattle.std.specs.Prelude.{◌≡◌, ℕ, ◌-◌, ◌*◌, Bool, false, cond, ◌||◌, List, [], ◌∷◌, ◌==◌, nat_lt, refl}
 use Rattle.figures.specs.Limits.{max_hours, max_price, max_factor}
 use Rattle.figures.specs.Rounding.{rounded}

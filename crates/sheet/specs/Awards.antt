@@ -1,6 +1,6 @@
 -- The award sheet: one figure for each seat, zone and product, good for every hour. Assumes nothing.
 --   Awards          the column that an award sheet keeps
---   spot_of s z p    the place in it of seat s, zone z and product p
+--   spot_of s z p   the place in it of seat s, zone z and product p
 --   award_at xs s z p
 --                   the award of that seat, zone and product, if there is one
 --   held_at xs s z p its kW, 0 where there is none

@@ -1,5 +1,5 @@
 -- The hourly sheet: a column of figures, one for each hour, seat, zone and product. Assumes nothing.
---   row_of P Z s w    the place in the column of seat s at the place w, in the order hour, seat, zone, product
+--   row_of P Z s w   the place in the column of seat s at the place w, in the order hour, seat, zone, product
 --   reading n        what a number of the column says: kW, or a blank where it is above the limit or there is none
 --   hourly_table P Z ns
 --                    what an hourly sheet of P seats and Z zones over the column ns means

@@ -1,20 +1,20 @@
 -- A table of positions: what a sheet means. Assumes nothing.
---   Place           a zone, a product and an hour
---   at z p h        the place of zone z, product p and hour h
---   Table           seats, zones, and a cell for each seat and place, which holds kW or is blank
+--   Place            a zone, a product and an hour
+--   at z p h         the place of zone z, product p and hour h
+--   Table            seats, zones, and a cell for each seat and place, which holds kW or is blank
 --   on_sheet P Z s z p
---                   seat s, zone z and product p are among P seats, Z zones and the two products
---   within P Z s w  seat s and place w have a cell: the hour, too, is one of a month
---   framed P Z f    the table of P seats and Z zones that holds f within, and blanks outside
---   kilowatts a     the figure that an answer gives, or a blank
---   plus a b        two cells added up, blank where either is
+--                    seat s, zone z and product p are among P seats, Z zones and the two products
+--   within P Z s w   seat s and place w have a cell: the hour, too, is one of a month
+--   framed P Z f     the table of P seats and Z zones that holds f within, and blanks outside
+--   kilowatts a      the figure that an answer gives, or a blank
+--   plus a b         two cells added up, blank where either is
 --   added_up f n     the cells of seats 0 to n - 1 added up, blank where one is
---   filled a        the kW of a cell, 0 where it is blank
+--   filled a         the kW of a cell, 0 where it is blank
 --   filled_up f n    the filled cells of seats 0 to n - 1 added up
 --   total_at t w     the total of all seats at the place w
 --   filled_at t w    the filled cells of all seats at the place w added up
---   Bounded t       1 to 16 seats, 1 to 4 zones, blanks outside, and at every place filled cells within the limit:
---                   what every lawful sheet's table keeps
+--   Bounded t        1 to 16 seats, 1 to 4 zones, blanks outside, and at every place filled cells within the limit:
+--                    what every lawful sheet's table keeps
 use Rattle.std.specs.Prelude.{◌≡◌, ℕ, zero, suc, ◌+◌, ◌<◌, ◌≤◌, Bool, false, cond, ◌&&◌, Some, None, Option, nat_lt, refl}
 use Rattle.figures.specs.Limits.{max_seats, max_zones, products, max_hours}
 use Rattle.figures.specs.declared.units.Kw.{Kw}
