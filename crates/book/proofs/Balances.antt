@@ -88,8 +88,8 @@ module _ (t : Table) (rs : List Trade) where
     abbrev offer : Offer
     offer = was.offer
 
-    pub confirm-keeps : was.state ≡ Offered → first_blank (over t rs) offer ≡ None → first_short (over t rs) offer.seller.0 offer ≡ None → Balanced t (set rs i (confirmed was))
-    confirm-keeps o f e =
+    pub confirm_keeps : was.state ≡ Offered → first_blank (over t rs) offer ≡ None → first_short (over t rs) offer.seller.0 offer ≡ None → Balanced t (set rs i (confirmed was))
+    confirm_keeps o f e =
         let y = confirmed was in
         let sold : (s : ℕ) (w : Place) → sold_at s w (set rs i y) ≡ sold_at s w rs + sells s w y = λ s w. omega (arith, sum_by-set (sells s w) rs i y no_trade lt, sells_as was Offered s w o) in
         let bought : (s : ℕ) (w : Place) → bought_at s w (set rs i y) ≡ bought_at s w rs + buys s w y = λ s w. omega (arith, sum_by-set (buys s w) rs i y no_trade lt, buys_as was Offered s w o) in
@@ -110,8 +110,8 @@ module _ (t : Table) (rs : List Trade) where
         }
 
     -- an offered trade leaves and had moved nothing
-    pub withdraw-keeps : was.state ≡ Offered → Balanced t (remove rs i)
-    withdraw-keeps o =
+    pub withdraw_keeps : was.state ≡ Offered → Balanced t (remove rs i)
+    withdraw_keeps o =
         let sold : (s : ℕ) (w : Place) → sold_at s w (remove rs i) ≡ sold_at s w rs = λ s w. omega (arith, sum_removed (sells s w) rs i lt, sells_as was Offered s w o) in
         let bought : (s : ℕ) (w : Place) → bought_at s w (remove rs i) ≡ bought_at s w rs = λ s w. omega (arith, sum_removed (buys s w) rs i lt, buys_as was Offered s w o) in
         record {
@@ -121,8 +121,8 @@ module _ (t : Table) (rs : List Trade) where
         }
 
     -- a confirmed trade leaves and its buyer holds it still
-    pub undo-keeps : was.state ≡ Confirmed → first_short (over t rs) offer.buyer.0 offer ≡ None → Balanced t (remove rs i)
-    undo-keeps o e =
+    pub undo_keeps : was.state ≡ Confirmed → first_short (over t rs) offer.buyer.0 offer ≡ None → Balanced t (remove rs i)
+    undo_keeps o e =
         let sold : (s : ℕ) (w : Place) → sold_at s w (remove rs i) + sells s w was ≡ sold_at s w rs = λ s w. sum_removed (sells s w) rs i lt in
         let bought : (s : ℕ) (w : Place) → bought_at s w (remove rs i) + cond (reaches offer w && eqb offer.buyer.0 s) offer.kw.0 0 ≡ bought_at s w rs = λ s w. omega (arith, sum_removed (buys s w) rs i lt, buys_as was Confirmed s w o) in
         record {

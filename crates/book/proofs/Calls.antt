@@ -56,20 +56,20 @@ module _ (gs hs : List (Bool × BookFault)) where
     abbrev rest : Result Deal BookFault
     rest = cond b (Ok Held) (decided hs)
 
-    pub denied-first-from : (e : BookFault) → first_of gs ≡ Some e → Err e ≡ decided_from gs b hs
-    denied-first-from e q = sym (ap (λ o. denied_by o rest) q)
+    pub denied_first_from : (e : BookFault) → first_of gs ≡ Some e → Err e ≡ decided_from gs b hs
+    denied_first_from e q = sym (ap (λ o. denied_by o rest) q)
 
-    pub held-from : first_of gs ≡ None → b ≡ true → Ok Held ≡ decided_from gs b hs
-    held-from q k = sym (ap (λ o. denied_by o rest) q ∙ ap (λ (x : Bool). cond x (Ok Held) (decided hs)) k)
+    pub held_from : first_of gs ≡ None → b ≡ true → Ok Held ≡ decided_from gs b hs
+    held_from q k = sym (ap (λ o. denied_by o rest) q ∙ ap (λ (x : Bool). cond x (Ok Held) (decided hs)) k)
 
     passed : first_of gs ≡ None → b ≡ false → decided hs ≡ decided_from gs b hs
     passed q k = sym (ap (λ o. denied_by o rest) q ∙ ap (λ (x : Bool). cond x (Ok Held) (decided hs)) k)
 
-    pub denied-later-from : (e : BookFault) → first_of gs ≡ None → b ≡ false → first_of hs ≡ Some e → Err e ≡ decided_from gs b hs
-    denied-later-from e q k l = sym (ap (λ o. denied_by o (Ok Done)) l) ∙ passed q k
+    pub denied_later_from : (e : BookFault) → first_of gs ≡ None → b ≡ false → first_of hs ≡ Some e → Err e ≡ decided_from gs b hs
+    denied_later_from e q k l = sym (ap (λ o. denied_by o (Ok Done)) l) ∙ passed q k
 
-    pub accepted-from : first_of gs ≡ None → b ≡ false → first_of hs ≡ None → Ok Done ≡ decided_from gs b hs
-    accepted-from q k l = sym (ap (λ o. denied_by o (Ok Done)) l) ∙ passed q k
+    pub accepted_from : first_of gs ≡ None → b ≡ false → first_of hs ≡ None → Ok Done ≡ decided_from gs b hs
+    accepted_from q k l = sym (ap (λ o. denied_by o (Ok Done)) l) ∙ passed q k
 
 not_met : (b : Bool) (e : BookFault) (x : Option BookFault) → cond b (Some e) x ≡ None → (b ≡ false) × (x ≡ None)
 not_met true e x q = absurd (some_none e q)
@@ -93,10 +93,10 @@ module _ {S : Type 0} (table : S → Table) (lawful : S → Type 0) (answer : Ta
   adds c ok = λ w. over_total (table c.below) (vec_items c.trades) w ok.trades
 
   pub denied_call : (e : BookFault) → (Lawful table lawful b → Err e ≡ answer (table b.below) (vec_items b.trades)) → Called table lawful answer new b (Err e) b
-  denied_call e a = record { below = refl; trades = refl; unaltered = refl; answers = a; stays = λ ok. ok; adds-up = adds b }
+  denied_call e a = record { below = refl; trades = refl; unaltered = refl; answers = a; stays = λ ok. ok; adds_up = adds b }
 
   pub held_call : (Lawful table lawful b → Ok Held ≡ answer (table b.below) (vec_items b.trades)) → Called table lawful answer new b (Ok Held) b
-  held_call a = record { below = refl; trades = refl; unaltered = refl; answers = a; stays = λ ok. ok; adds-up = adds b }
+  held_call a = record { below = refl; trades = refl; unaltered = refl; answers = a; stays = λ ok. ok; adds_up = adds b }
 
   pub done_call : (c : Book S) → c.below ≡ b.below → vec_items c.trades ≡ new (vec_items b.trades) → (Lawful table lawful b → (Ok Done ≡ answer (table b.below) (vec_items b.trades)) × Balanced (table b.below) (new (vec_items b.trades))) → Called table lawful answer new b (Ok Done) c
   done_call c s e k =
@@ -104,4 +104,4 @@ module _ {S : Type 0} (table : S → Table) (lawful : S → Type 0) (answer : Ta
         under = subst lawful (sym s) ok.under;
         trades = subst (λ (x : S). Balanced (table x) (vec_items c.trades)) (sym s) (subst (λ (x : List Trade). Balanced (table b.below) x) (sym e) (k ok).1);
       } in
-      record { below = s; trades = e; unaltered = tt; answers = λ ok. (k ok).0; stays = stays; adds-up = λ ok. adds c (stays ok) }
+      record { below = s; trades = e; unaltered = tt; answers = λ ok. (k ok).0; stays = stays; adds_up = λ ok. adds c (stays ok) }

@@ -10,7 +10,7 @@ use Rattle.book.specs.declared.trades.TradeState.{TradeState}
 use Rattle.book.specs.declared.trades.TradeState.TheVariants.{Offered, Confirmed}
 use Rattle.book.specs.Trades.{is_confirmed, over, Balanced}
 use Rattle.book.specs.Deals.{index_of, trade_of, first_blank, first_short, at_hour, cover_grounds, undo_grounds, confirmed_in, cancelled_in}
-use Rattle.book.proofs.Balances.{confirm-keeps, withdraw-keeps, undo-keeps}
+use Rattle.book.proofs.Balances.{confirm_keeps, withdraw_keeps, undo_keeps}
 use Rattle.book.proofs.Calls.{some_none}
 
 no_hour : (e : Hour → BookFault) (x : Option ℕ) (gs : List (Bool × BookFault)) → first_of (at_hour e x ∷ gs) ≡ None → (x ≡ None) × (first_of gs ≡ None)
@@ -23,7 +23,7 @@ module _ (t : Table) (rs : List Trade) (n : ℕ) (lt : index_of rs n < length rs
       let o = (trade_of rs n).offer in
       let filled = no_hour Blank (first_blank (over t rs) o) (at_hour Short (first_short (over t rs) o.seller.0 o) ∷ []) q in
       let holds = no_hour Short (first_short (over t rs) o.seller.0 o) [] filled.1 in
-      confirm-keeps t rs (index_of rs n) lt b g filled.0 holds.0
+      confirm_keeps t rs (index_of rs n) lt b g filled.0 holds.0
 
   pub cancel_stays : first_of (undo_grounds (over t rs) (trade_of rs n)) ≡ None → Balanced t (cancelled_in rs n)
   cancel_stays q =
@@ -31,7 +31,7 @@ module _ (t : Table) (rs : List Trade) (n : ℕ) (lt : index_of rs n < length rs
       let short = first_short (over t rs) o.buyer.0 o in
       let go : (g : TradeState) → (trade_of rs n).state ≡ g → first_of (cond (is_confirmed g) (at_hour Spent short ∷ []) []) ≡ None → Balanced t (cancelled_in rs n)
       = λ g. elim g as (λ g. (trade_of rs n).state ≡ g → first_of (cond (is_confirmed g) (at_hour Spent short ∷ []) []) ≡ None → Balanced t (cancelled_in rs n)) [
-        | Offered ↦ λ is k. withdraw-keeps t rs (index_of rs n) lt b is
-        | Confirmed ↦ λ is k. undo-keeps t rs (index_of rs n) lt b is (no_hour Spent short [] k).0
+        | Offered ↦ λ is k. withdraw_keeps t rs (index_of rs n) lt b is
+        | Confirmed ↦ λ is k. undo_keeps t rs (index_of rs n) lt b is (no_hour Spent short [] k).0
       ]
       in go (trade_of rs n).state refl q

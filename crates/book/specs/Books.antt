@@ -33,4 +33,4 @@ module _ {S : Type 0} (table : S → Table) (lawful : S → Type 0) where
     pub unaltered : NotDone r (c ≡ b)
     pub answers : Lawful table lawful b → r ≡ answer (table b.below) (vec_items b.trades)
     pub stays : Lawful table lawful b → Lawful table lawful c
-    pub adds-up : Lawful table lawful b → AddsUp table c
+    pub adds_up : Lawful table lawful b → AddsUp table c

@@ -108,16 +108,16 @@ module _ (f : ℕ → List ℕ → List ℕ) (ls : List ℕ) (law : (t : ℕ) �
     }
 
     -- an answer of the rule itself, where the total is above 0
-    pub by-rule : (z : ℤ) (r : Result Unit DivisionFault) (out : List Cents) → pos 0 <ℤ z
+    pub by_rule : (z : ℤ) (r : Result Unit DivisionFault) (out : List Cents) → pos 0 <ℤ z
         → Divided (rule_grounds z ls (length was)) (cents_of (map pos (f (nat_abs z) ls))) was r out → SignedDivided f z ls was r out
-    by-rule (pos zero) r out h d = absurd (omega (arith, ints))
-    by-rule (pos (suc m)) (Ok u) out h d = done (pos (suc m)) out (size_grounds_lem (pos (suc m)) ls (length was) (omega arith) ∙ d.judged) d.column
-    by-rule (pos (suc m)) (Err e) out h d = record {
+    by_rule (pos zero) r out h d = absurd (omega (arith, ints))
+    by_rule (pos (suc m)) (Ok u) out h d = done (pos (suc m)) out (size_grounds_lem (pos (suc m)) ls (length was) (omega arith) ∙ d.judged) d.column
+    by_rule (pos (suc m)) (Err e) out h d = record {
       judged = size_grounds_lem (pos (suc m)) ls (length was) (omega arith) ∙ d.judged;
       column = d.column;
       balanced = tt;
     }
-    by-rule (negsuc m) r out h d = absurd (omega (arith, ints))
+    by_rule (negsuc m) r out h d = absurd (omega (arith, ints))
 
     -- an answer to a total of 0
     pub by_zero : (z : ℤ) (r : Result Unit DivisionFault) (out : List Cents) → z ≡ pos 0
@@ -128,10 +128,10 @@ module _ (f : ℕ → List ℕ → List ℕ) (ls : List ℕ) (law : (t : ℕ) �
     by_zero (negsuc m) r out h d = absurd (omega (arith, ints))
 
     -- the shares of the opposite m, negated
-    pub by-opposite : (z m : ℤ) (parts out : List Cents) → z <ℤ pos 0 → m ≡ pos (nat_abs z)
+    pub by_opposite : (z m : ℤ) (parts out : List Cents) → z <ℤ pos 0 → m ≡ pos (nat_abs z)
         → Divided (rule_grounds m ls (length was)) (cents_of (map pos (f (nat_abs m) ls))) was (Ok tt) parts → out ≡ map negated parts → SignedDivided f z ls was (Ok tt) out
-    by-opposite (pos n) m parts out h e d w = absurd (omega (arith, ints))
-    by-opposite (negsuc n) m parts out h e d w =
+    by_opposite (pos n) m parts out h e d w = absurd (omega (arith, ints))
+    by_opposite (negsuc n) m parts out h e d w =
         done (negsuc n) out
         (size_grounds_lem (negsuc n) ls (length was) (omega arith) ∙ (ap (λ (y : ℤ). first_of (rule_grounds y ls (length was))) (sym e) ∙ d.judged))
         (w ∙ (ap (map negated) (d.column ∙ ap (λ (y : ℤ). cents_of (map pos (f (nat_abs y) ls))) e) ∙ negated_cents (f (suc n) ls)))

@@ -96,7 +96,7 @@ module _ (t : ℕ) (ls : List ℕ) (p : 0 < sum ls) where
             let y : bit (stands (rests_of t ls) k s) ≡ 1 = ap bit (or_left _ _ (lt-ltb (slice_index (rests_of t ls) s) (slice_index (rests_of t ls) k) (omega arith))) in
             let m = ap (λ (x : ℕ). x * sum ls) y in
             omega arith
-        | inr no-rest ↦ omega arith
+        | inr no_rest ↦ omega arith
       ]) in
       let a = ahead_is s in
       let m = ap (λ (x : ℕ). x * sum ls) a in
@@ -124,7 +124,7 @@ module _ (t : ℕ) (ls : List ℕ) (p : 0 < sum ls) where
 
   near : (s : ℕ) → s < length ls → apart (t * slice_index ls s) (sum ls) (remainder_at t ls s) < sum ls
   near s lt =
-      let whole-at = div-add-mod' (t * slice_index ls s) (sum ls) in
+      let whole_at = div-add-mod' (t * slice_index ls s) (sum ls) in
       let split = add-mul (floor_at t ls s) (extra_at t ls s) (sum ls) in
       let under = rest_lt s in
       elim (cases_lt (ahead (rests_of t ls) s) (left_over t ls)) [
@@ -142,9 +142,9 @@ module _ (t : ℕ) (ls : List ℕ) (p : 0 < sum ls) where
   -- who has the cent stands before who has not
   first : length ls ≤ 16 → (s k : ℕ) → s < length ls → k < length ls → extra_at t ls s ≡ 1 → extra_at t ls k ≡ 0
       → (rest_at t ls k < rest_at t ls s) ⊎ ((rest_at t ls k ≡ rest_at t ls s) × (s < k))
-  first few s k ls-s ls-k one none =
-      let a = ahead_above s few ls-s in
-      let b = ahead_above k few ls-k in
+  first few s k ls_s ls_k one none =
+      let a = ahead_above s few ls_s in
+      let b = ahead_above k few ls_k in
       let in-front : ahead (rests_of t ls) s < left_over t ls = elim (cases_lt (ahead (rests_of t ls) s) (left_over t ls)) [
         | inl l ↦ l
         | inr g ↦ absurd (let z = ap bit (le-ltb (ahead (rests_of t ls) s) (left_over t ls) g) in omega arith)
@@ -153,7 +153,7 @@ module _ (t : ℕ) (ls : List ℕ) (p : 0 < sum ls) where
         | inl l ↦ absurd (let z = ap bit (lt-ltb (ahead (rests_of t ls) k) (left_over t ls) l) in omega arith)
         | inr g ↦ g
       ] in
-      let above-it : key_at t ls k < key_at t ls s = elim (cases_lt (key_at t ls k) (key_at t ls s)) [
+      let above_it : key_at t ls k < key_at t ls s = elim (cases_lt (key_at t ls k) (key_at t ls s)) [
         | inl l ↦ l
         | inr g ↦ absurd (let f = above_falls (keys_of t ls) (key_at t ls s) (key_at t ls k) g in omega arith)
       ] in

@@ -7,7 +7,7 @@ use Rattle.book.specs.declared.faults.BookFault.TheVariants.{NoTrade}
 use Rattle.book.specs.declared.trades.Trade.{Trade}
 use Rattle.book.specs.Trades.{no_trade, over}
 use Rattle.book.specs.Deals.{index_of, trade_of, known_grounds, undo_grounds, cancel_answer_from, cancelled_in, begins_before}
-use Rattle.book.proofs.Calls.{denied-first-from, held-from, denied-later-from, accepted-from, denied_call, held_call, done_call}
+use Rattle.book.proofs.Calls.{denied_first_from, held_from, denied_later_from, accepted_from, denied_call, held_call, done_call}
 use Rattle.book.proofs.Stays.{cancel_stays}
 use Rattle.book.proofs.kept.Book.cancel_from.Goals as goal
 
@@ -20,7 +20,7 @@ returns-in_default g c =
     let gs = known_grounds rs n in
     let hs = undo_grounds (over t rs) (trade_of rs n) in
     let none : first_of gs ≡ Some NoTrade = rw c.in_default.ensures in
-    denied_call g.S.Sheet.table g.S.Sheet.lawful (cancel_answer_from c.args.from.0 n) (λ (xs : List Trade). cancelled_in xs n) b NoTrade (λ ok. denied-first-from gs hs (begins_before (trade_of rs n).offer c.args.from.0) NoTrade none)
+    denied_call g.S.Sheet.table g.S.Sheet.lawful (cancel_answer_from c.args.from.0 n) (λ (xs : List Trade). cancelled_in xs n) b NoTrade (λ ok. denied_first_from gs hs (begins_before (trade_of rs n).offer c.args.from.0) NoTrade none)
 
 pub returns-then-trade-from : goal.returns-then-trade-from
 returns-then-trade-from g c =
@@ -34,7 +34,7 @@ returns-then-trade-from g c =
     let known : first_of gs ≡ None = rw found.1 in
     let is : c.trade_at-trade.result ≡ trade_of rs n = c.trade_at-trade.ensures.is ∙ ap (λ (k : ℕ). get_or rs k no_trade) found.0 in
     let late = ap (λ (r : Trade). begins_before r.offer c.args.from.0) (sym is) ∙ lt-ltb c.trade_at-trade.result.offer.first.0 c.args.from.0 c.if-trade-from.true in
-    held_call g.S.Sheet.table g.S.Sheet.lawful (cancel_answer_from c.args.from.0 n) (λ (xs : List Trade). cancelled_in xs n) b (λ ok. held-from gs hs (begins_before (trade_of rs n).offer c.args.from.0) known late)
+    held_call g.S.Sheet.table g.S.Sheet.lawful (cancel_answer_from c.args.from.0 n) (λ (xs : List Trade). cancelled_in xs n) b (λ ok. held_from gs hs (begins_before (trade_of rs n).offer c.args.from.0) known late)
 
 pub returns-in_err-spares : goal.returns-in_err-spares
 returns-in_err-spares g c =
@@ -50,7 +50,7 @@ returns-in_err-spares g c =
     let is : c.trade_at-trade.result ≡ trade_of rs n = c.trade_at-trade.ensures.is ∙ ap (λ (k : ℕ). get_or rs k no_trade) found.0 in
     let early = ap (λ (r : Trade). begins_before r.offer c.args.from.0) (sym is) ∙ le-ltb c.trade_at-trade.result.offer.first.0 c.args.from.0 c.if-trade-from.false in
     let e = c.in_err-spares.field-0.0 in
-    rw (p.1, p.2) (denied_call g.S.Sheet.table g.S.Sheet.lawful (cancel_answer_from c.args.from.0 n) (λ (xs : List Trade). cancelled_in xs n) b e (λ ok. denied-later-from gs hs (begins_before (trade_of rs n).offer c.args.from.0) e known early (subst (λ (r : Trade). first_of (undo_grounds (over t rs) r) ≡ Some e) is (c.in_err-spares.ensures ok))))
+    rw (p.1, p.2) (denied_call g.S.Sheet.table g.S.Sheet.lawful (cancel_answer_from c.args.from.0 n) (λ (xs : List Trade). cancelled_in xs n) b e (λ ok. denied_later_from gs hs (begins_before (trade_of rs n).offer c.args.from.0) e known early (subst (λ (r : Trade). first_of (undo_grounds (over t rs) r) ≡ Some e) is (c.in_err-spares.ensures ok))))
 
 pub returns : goal.returns
 returns g c =
@@ -68,4 +68,4 @@ returns g c =
     let items = c.strike.ensures.trades ∙ ap (λ (k : ℕ). remove rs k) found.0 in
     done_call g.S.Sheet.table g.S.Sheet.lawful (cancel_answer_from c.args.from.0 n) (λ (xs : List Trade). cancelled_in xs n) b c.strike.new.self c.strike.ensures.below items (λ ok.
     let none = subst (λ (r : Trade). first_of (undo_grounds (over t rs) r) ≡ None) is (c.in_ok-spares.ensures ok) in
-    (accepted-from gs hs (begins_before (trade_of rs n).offer c.args.from.0) known early none, cancel_stays t rs n lt ok.trades none))
+    (accepted_from gs hs (begins_before (trade_of rs n).offer c.args.from.0) known early none, cancel_stays t rs n lt ok.trades none))

@@ -6,7 +6,7 @@ use Rattle.book.specs.declared.trades.Trade.{Trade}
 use Rattle.book.specs.declared.trades.TradeState.TheVariants.{Offered}
 use Rattle.book.specs.Trades.{no_trade, confirmed, over}
 use Rattle.book.specs.Deals.{index_of, trade_of, find_grounds, cover_grounds, confirm_answer_from, confirmed_in, begins_before}
-use Rattle.book.proofs.Calls.{denied-first-from, held-from, denied-later-from, accepted-from, denied_call, held_call, done_call}
+use Rattle.book.proofs.Calls.{denied_first_from, held_from, denied_later_from, accepted_from, denied_call, held_call, done_call}
 use Rattle.book.proofs.Stays.{confirm_stays}
 use Rattle.book.proofs.kept.Book.confirm_from.Goals as goal
 
@@ -20,7 +20,7 @@ returns-in_err-index g c =
     let gs = find_grounds t rs n c.args.seat.0 in
     let hs = cover_grounds (over t rs) (trade_of rs n).offer in
     let e = c.in_err-index.field-0.0 in
-    rw (p.1, p.2) (denied_call g.S.Sheet.table g.S.Sheet.lawful (confirm_answer_from c.args.from.0 n c.args.seat.0) (λ (xs : List Trade). confirmed_in xs n) b e (λ ok. denied-first-from gs hs (begins_before (trade_of rs n).offer c.args.from.0) e (c.in_err-index.ensures.judged ok)))
+    rw (p.1, p.2) (denied_call g.S.Sheet.table g.S.Sheet.lawful (confirm_answer_from c.args.from.0 n c.args.seat.0) (λ (xs : List Trade). confirmed_in xs n) b e (λ ok. denied_first_from gs hs (begins_before (trade_of rs n).offer c.args.from.0) e (c.in_err-index.ensures.judged ok)))
 
 pub returns-then-offer-from : goal.returns-then-offer-from
 returns-then-offer-from g c =
@@ -33,7 +33,7 @@ returns-then-offer-from g c =
     let found = c.in_ok-index.ensures.found in
     let is : c.trade_at.result ≡ trade_of rs n = c.trade_at.ensures.is ∙ ap (λ (k : ℕ). get_or rs k no_trade) found.0 in
     let late = ap (λ (r : Trade). begins_before r.offer c.args.from.0) (sym is) ∙ lt-ltb c.trade_at.result.offer.first.0 c.args.from.0 c.if-offer-from.true in
-    held_call g.S.Sheet.table g.S.Sheet.lawful (confirm_answer_from c.args.from.0 n c.args.seat.0) (λ (xs : List Trade). confirmed_in xs n) b (λ ok. held-from gs hs (begins_before (trade_of rs n).offer c.args.from.0) (c.in_ok-index.ensures.judged ok) late)
+    held_call g.S.Sheet.table g.S.Sheet.lawful (confirm_answer_from c.args.from.0 n c.args.seat.0) (λ (xs : List Trade). confirmed_in xs n) b (λ ok. held_from gs hs (begins_before (trade_of rs n).offer c.args.from.0) (c.in_ok-index.ensures.judged ok) late)
 
 pub returns-in_err-check_cover : goal.returns-in_err-check_cover
 returns-in_err-check_cover g c =
@@ -48,7 +48,7 @@ returns-in_err-check_cover g c =
     let is : c.trade_at.result ≡ trade_of rs n = c.trade_at.ensures.is ∙ ap (λ (k : ℕ). get_or rs k no_trade) found.0 in
     let early = ap (λ (r : Trade). begins_before r.offer c.args.from.0) (sym is) ∙ le-ltb c.trade_at.result.offer.first.0 c.args.from.0 c.if-offer-from.false in
     let e = c.in_err-check_cover.field-0.0 in
-    rw (p.1, p.2) (denied_call g.S.Sheet.table g.S.Sheet.lawful (confirm_answer_from c.args.from.0 n c.args.seat.0) (λ (xs : List Trade). confirmed_in xs n) b e (λ ok. denied-later-from gs hs (begins_before (trade_of rs n).offer c.args.from.0) e (c.in_ok-index.ensures.judged ok) early (subst (λ (r : Trade). first_of (cover_grounds (over t rs) r.offer) ≡ Some e) is (c.in_err-check_cover.ensures ok))))
+    rw (p.1, p.2) (denied_call g.S.Sheet.table g.S.Sheet.lawful (confirm_answer_from c.args.from.0 n c.args.seat.0) (λ (xs : List Trade). confirmed_in xs n) b e (λ ok. denied_later_from gs hs (begins_before (trade_of rs n).offer c.args.from.0) e (c.in_ok-index.ensures.judged ok) early (subst (λ (r : Trade). first_of (cover_grounds (over t rs) r.offer) ≡ Some e) is (c.in_err-check_cover.ensures ok))))
 
 pub returns : goal.returns
 returns g c =
@@ -66,4 +66,4 @@ returns g c =
     let items = c.stand.ensures.trades ∙ ap (λ (k : ℕ). set rs k (confirmed (get_or rs k no_trade))) found.0 in
     done_call g.S.Sheet.table g.S.Sheet.lawful (confirm_answer_from c.args.from.0 n c.args.seat.0) (λ (xs : List Trade). confirmed_in xs n) b c.stand.new.self c.stand.ensures.below items (λ ok.
     let none = subst (λ (r : Trade). first_of (cover_grounds (over t rs) r.offer) ≡ None) is (c.in_ok-check_cover.ensures ok) in
-    (accepted-from gs hs (begins_before (trade_of rs n).offer c.args.from.0) (c.in_ok-index.ensures.judged ok) early none, confirm_stays t rs n lt ok.trades offered none))
+    (accepted_from gs hs (begins_before (trade_of rs n).offer c.args.from.0) (c.in_ok-index.ensures.judged ok) early none, confirm_stays t rs n lt ok.trades offered none))
