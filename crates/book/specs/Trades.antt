@@ -20,7 +20,7 @@
 --   Sound t o        the parties of the offer o are two seats of the table
 --   Balanced t rs    the trades rs are sound on the table t: no seat has sold more than it holds and has bought, and
 --                    nothing is traded in a blank cell
-use Rattle.std.specs.Prelude.{◌≡◌, ℕ, ◌+◌, ◌-◌, ◌<◌, ◌≤◌, Bool, true, false, cond, ◌&&◌, List, [], ◌∷◌, length, get_or, Some, None, Ok, Err, sum_by, Option, Result, ◌==◌, ◌≢◌, nat_le, slice_index_or, refl}
+use Rattle.std.specs.Prelude.{◌≡◌, ℕ, ◌+◌, ◌-◌, ◌<◌, ◌≤◌, Bool, true, false, cond, ◌&&◌, List, [], ◌∷◌, length, Some, None, Ok, Err, sum_by, Option, Result, ◌==◌, ◌≢◌, nat_le, slice_index_or, refl}
 use Rattle.figures.specs.Limits.{max_hours}
 use Rattle.sheet.specs.Limits.{max_kw}
 use Rattle.sheet.specs.Tables.{Place, Table, at, framed, filled}
@@ -91,7 +91,7 @@ abbrev pub Fit : Offer → Type 0
 Fit o = (0 < o.kw.0) × (o.kw.0 ≤ max_kw) × (o.first.0 ≤ o.last.0) × (o.last.0 < max_hours)
 
 abbrev pub Apart : List Trade → Type 0
-Apart rs = (j k : ℕ) → (j < k) × (k < length rs) → (get_or rs j no_trade).offer.number.0 ≢ (get_or rs k no_trade).offer.number.0
+Apart rs = (j k : ℕ) → (j < k) × (k < length rs) → (slice_index_or rs j no_trade).offer.number.0 ≢ (slice_index_or rs k no_trade).offer.number.0
 
 pub record Sound (t : Table) (o : Offer) : Type 0 where
   pub seller : o.seller.0 < t.seats

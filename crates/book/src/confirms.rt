@@ -1,4 +1,4 @@
-ghost use Rattle.std.specs.Prelude.{◌≡◌, ◌<◌, length, get_or, IfOk, slice_index_or, slice_set};
+ghost use Rattle.std.specs.Prelude.{◌≡◌, ◌<◌, length, IfOk, slice_index_or, slice_set};
 ghost use Rattle.figures.specs.Grounds.{Judged};
 ghost use Rattle.book.specs.declared.trades.TradeEvent.TheVariants.{Confirm};
 ghost use Rattle.book.specs.Trades.{no_trade, confirmed, turn_of};
@@ -17,7 +17,7 @@ impl<S> Book<S> {
     // Lets the confirm happen to a trade, which then stands.
     fn stand(&mut self, index: usize) -> Result<Turn, BookFault>
         requires here { index < length self.old.trades.items }
-        ensures turn { result ≡ turn_of (get_or self.old.trades.items index no_trade).state Confirm }
+        ensures turn { result ≡ turn_of (slice_index_or self.old.trades.items index no_trade).state Confirm }
         ensures below { self.new.below ≡ self.old.below }
         ensures trades { self.new.trades.items ≡ slice_set self.old.trades.items index (confirmed (slice_index_or self.old.trades.items index no_trade)) }
     {
@@ -29,7 +29,7 @@ impl<S: Sheet> Book<S> {
     // The index of the trade, where the seat may confirm it.
     fn to_confirm(&self, number: TradeNumber, seat: Seat) -> Result<usize, BookFault>
         ensures judged { Lawful S.Sheet.table S.Sheet.lawful self.now → Judged (find_grounds (S.Sheet.table self.now.below) self.now.trades.items number.0 seat.0) result }
-        ensures found { IfOk result (λ i. (i ≡ index_of self.now.trades.items number.0) × (i < length self.now.trades.items) × ((get_or self.now.trades.items i no_trade).state ≡ Offered)) }
+        ensures found { IfOk result (λ i. (i ≡ index_of self.now.trades.items number.0) × (i < length self.now.trades.items) × ((slice_index_or self.now.trades.items i no_trade).state ≡ Offered)) }
     {
         if seat.0 >= self.below.seats() {
             return Err(BookFault::Beyond);

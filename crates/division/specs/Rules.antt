@@ -2,7 +2,8 @@
 --   heavy ls               some load is above its limit
 --   unfit ls n             the loads, or a share column of length n, are not what a division takes
 --   rule_grounds z ls n    the grounds on which a rule denies the total z
---   signed_grounds z ls n the same for the division of a signed total
+--   signed_grounds z ls n
+--                          the same for the division of a signed total
 --   ground_of e            number, layer and place of a fault
 --   after r new was        new where the answer r is not a denial, and else was
 --   Divided gs new was r out

@@ -50,7 +50,7 @@ pub trait DivisionRule {
     // What the rule means: the shares of a total over loads.
     ghost shares: { Self → ℕ → List ℕ → List ℕ };
 
-    // The letter again, since a clause cannot name a constant of a trait: each rule answers `Self::LETTER`.
+    // The letter again, for generic code: each rule answers `Self::LETTER`, and the clause says which letter that is.
     fn heading() -> char
         ensures { result ≡ code };
 

@@ -3,7 +3,8 @@
 --   spot_of s z p   the place in it of seat s, zone z and product p
 --   award_at xs s z p
 --                   the award of that seat, zone and product, if there is one
---   held_at xs s z p its kW, 0 where there is none
+--   held_at xs s z p
+--                   its kW, 0 where there is none
 --   award_table P Z xs
 --                   what an award sheet of P seats and Z zones means
 --   award_grounds P Z xs s z p k

@@ -1,7 +1,7 @@
 -- Why a sheet denies, and under which ground. Assumes nothing.
---   ground_of e    number, layer and place of a fault
---   missized P Z   P seats or Z zones are beyond their limits
---   size_grounds P Z the grounds on which a sheet of P seats and Z zones is denied
+--   ground_of e        number, layer and place of a fault
+--   missized P Z       P seats or Z zones are beyond their limits
+--   size_grounds P Z   the grounds on which a sheet of P seats and Z zones is denied
 use Rattle.std.specs.Prelude.{◌≡◌, ℕ, Bool, true, false, ◌||◌, List, [], ◌∷◌, ◌==◌, nat_lt, refl}
 use Rattle.figures.specs.Limits.{max_seats, max_zones}
 use Rattle.figures.specs.declared.grounds.Ground.{Ground}
