@@ -3,8 +3,8 @@
 between two names, as in `length-tenths`. Run it at the top of the repository, after the toolchain's own port script.
 
 It goes by whole names, and only by those of NAMES. In .rt files a name with a dash is turned in ghost items alone,
-and in pages only between backticks, so that plain words such as "no load" stay. Functions, types, strings, inputs and
-outputs are not touched. A second run changes nothing.
+and in pages only between backticks, so that plain words such as "no load" stay. Functions, types, inputs and outputs
+are not touched. A second run changes nothing.
 """
 
 import glob
@@ -275,7 +275,7 @@ def turned(path, text):
         for line in text.split("\n"):
             inside = inside or line.lstrip().startswith("ghost ")
             lines.append(ALL(line) if inside else PLAIN(line))
-            inside = inside and not line.rstrip().endswith(";")
+            inside = inside and not line.rstrip().endswith((";", "},"))
         return "\n".join(lines)
     return re.sub("`[^`\n]+`", lambda m: ALL(m.group(0)), text)
 
@@ -284,7 +284,8 @@ def main():
     paths = []
     for pattern in ["crates/*/specs/**/*.antt", "crates/*/proofs/**/*.antt", "crates/*/src/**/*.rt", "crates/*/must-fail/*.edit", "docs/*.md", "README.md"]:
         paths += sorted(glob.glob(pattern, recursive=True))
-    for path in paths:
+    # the page that sets old names beside new ones keeps both
+    for path in [p for p in paths if p != "docs/PORT.md"]:
         with open(path, encoding="utf-8") as f:
             old = f.read()
         new = turned(path, old)
