@@ -118,6 +118,7 @@ NAMES = {
     'hour-before': 'hour_before',
     'hourOf': 'hour_of',
     'hourlyTable': 'hourly_table',
+    'in-front': 'in_front',
     'inBook': 'in_book',
     'isBlank': 'is_blank',
     'isConfirmed': 'is_confirmed',
@@ -266,9 +267,7 @@ PLAIN = turner([n for n in NAMES if "-" not in n])
 
 
 def turned(path, text):
-    if path.endswith(".antt"):
-        return ALL(text)
-    if path.endswith(".edit"):
+    if path.endswith((".antt", ".edit")):
         return ALL(text)
     if path.endswith(".rt"):
         lines, inside = [], False

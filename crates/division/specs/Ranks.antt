@@ -83,7 +83,7 @@ ranked (x ∷ xs) m d h =
     let own : above (x ∷ xs) x ≡ above xs x = (let c = count_cons (λ y. ltb x y) x xs in let n = bit_no x x (omega arith) in omega arith) in
     elim (cases_lt (above xs x) m) [
       | inl l ↦
-          let in-front = bit_yes (above (x ∷ xs) x) m (omega arith) in
+          let in_front = bit_yes (above (x ∷ xs) x) m (omega arith) in
           let others = same_count (λ z. ltb (above (x ∷ xs) z) m) (λ z. ltb (above xs z) (m - 1)) xs (λ z w.
           let c = count_cons (λ y. ltb z y) x xs in
           elim (cases_order z x) [

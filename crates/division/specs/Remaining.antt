@@ -145,7 +145,7 @@ module _ (t : ℕ) (ls : List ℕ) (p : 0 < sum ls) where
   first few s k ls_s ls_k one none =
       let a = ahead_above s few ls_s in
       let b = ahead_above k few ls_k in
-      let in-front : ahead (rests_of t ls) s < left_over t ls = elim (cases_lt (ahead (rests_of t ls) s) (left_over t ls)) [
+      let in_front : ahead (rests_of t ls) s < left_over t ls = elim (cases_lt (ahead (rests_of t ls) s) (left_over t ls)) [
         | inl l ↦ l
         | inr g ↦ absurd (let z = ap bit (le-ltb (ahead (rests_of t ls) s) (left_over t ls) g) in omega arith)
       ] in

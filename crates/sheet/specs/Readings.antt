@@ -1,10 +1,16 @@
--- A figure that an hourly sheet reads is within its limit. Assumes nothing.
-use Rattle.std.specs.Prelude.{ℕ, ◌≤◌, Some, None, Option, nat_lt}
+-- What a sheet reads of its column: an award lies in it, and an hourly figure is within its limit. Assumes nothing.
+use Rattle.std.specs.Prelude.{◌≡◌, ℕ, ◌<◌, ◌≤◌, true, false, Some, None, Option, nat_lt}
 use Rattle.std.proofs.Common.{arith}
 use Rattle.std.proofs.lemmas.Bool.{cond_both, ltb-false}
+use Rattle.std.proofs.lemmas.Bool.Decides.{nat_tests}
 use Rattle.sheet.specs.Limits.{max_award}
-use Rattle.sheet.specs.Tables.{filled}
+use Rattle.sheet.specs.Tables.{Place, within, filled}
+use Rattle.sheet.specs.Faults.{missized}
+use Rattle.sheet.specs.Awards.{spot_of}
 use Rattle.sheet.specs.Hourly.{reading}
+
+pub spot_below : (P Z s : ℕ) (w : Place) → missized P Z ≡ false → within P Z s w ≡ true → spot_of s w.zone w.product < 128
+spot_below P Z s w sized inside = grind (arith, nat_tests)
 
 pub reading-le : (o : Option ℕ) → filled (reading o) ≤ max_award
 reading-le None = omega arith

@@ -3,9 +3,8 @@ ghost use Rattle.figures.specs.Grounds.{Judged};
 ghost use Rattle.sheet.specs.Limits.{max_award};
 ghost use Rattle.sheet.specs.Tables.{kilowatts, filled};
 ghost use Rattle.sheet.specs.Awards.{spot_of, award_table, award_grounds, Entered, Granted, held_at};
-ghost use Rattle.std.proofs.Common.{arith};
-ghost use Rattle.std.proofs.lemmas.Bool.Decides.{nat_tests};
 ghost use Rattle.sheet.specs.Frames.{framed_bounded};
+ghost use Rattle.sheet.specs.Readings.{spot_below};
 
 use crate::faults::SheetFault;
 use crate::sheets::{MAX_AWARD, Sheet};
@@ -79,8 +78,7 @@ impl Sheet for AwardSheet {
 
     ghost bounded = { λ x ok.
         framed_bounded x.size.seats x.size.zones (λ s w. Some (held_at x.awards s w.zone w.product)) x.size.sized (λ s w e.
-        let lt : spot_of s w.zone w.product < 128 = (let sized = x.size.sized in Prim.grind (arith, nat_tests)) in
-        x.small (spot_of s w.zone w.product) lt) };
+        x.small (spot_of s w.zone w.product) (spot_below x.size.seats x.size.zones s w x.size.sized e)) };
 
     fn seats(&self) -> u8 {
         self.size.seats
