@@ -1,5 +1,8 @@
 -- From what the code found to what a call promises. Assumes nothing.
 use Rattle.std.proofs.Common.{◌≡◌, ℕ, Bool, true, false, cond, eqb, leb, List, [], ◌∷◌, ◌++◌, Some, None, Ok, Err, vec_items, Option, Result, sym, refl, ap, ◌∙◌, subst, arith}
+use Rattle.std.specs.Ordering.{is_lt, nat_cmp}
+use Rattle.std.specs.Prelude.{nat_lt}
+use Rattle.std.proofs.lemmas.Grind.{common_steps}
 use Rattle.std.proofs.lemmas.Bool.{or_parts, leb-false, eqb-false}
 use Rattle.figures.specs.Grounds.{first_of}
 use Rattle.sheet.specs.Tables.{Table}
@@ -14,6 +17,10 @@ use Rattle.book.specs.Trades.{Sound, Balanced}
 use Rattle.book.specs.Deals.{beyond, misfigured, void, offer_grounds, denied_by, decided, decided_from}
 use Rattle.book.specs.Books.{Lawful, AddsUp, Called}
 use Rattle.book.specs.Totals.{over_total}
+
+-- what a derived order says of the numbers inside
+pub before_is : (a k : ℕ) → is_lt (nat_cmp a k) ≡ nat_lt a k
+before_is a k = grind (arith, common_steps)
 
 pub some_none : (e : BookFault) → Some e ≡ None → ⊥
 some_none e q = (let z : ◌≡◌ {A = ℕ} 0 1 = cc in omega (arith, z))

@@ -1,6 +1,7 @@
 -- The numbers of a book's trades stay apart. Assumes nothing.
-use Rattle.std.proofs.Common.{◌≡◌, ℕ, zero, suc, ◌+◌, ◌<◌, ◌≤◌, Bool, true, false, cond, not, ◌≢◌, List, [], ◌∷◌, ◌++◌, length, get_or, set, sym, ap, ◌∙◌, ⊎_elim, arith}
-use Rattle.std.specs.List.{prefix_len, remove}
+use Rattle.std.proofs.Common.{◌≡◌, ℕ, zero, suc, ◌+◌, ◌<◌, ◌≤◌, Bool, true, false, cond, not, ◌≢◌, List, [], ◌∷◌, ◌++◌, length, get_or, set, Some, None, Option, MatchOption, refl, subst, sym, ap, ◌∙◌, ⊎_elim, arith}
+use Rattle.std.specs.List.{position, remove}
+use Rattle.std.proofs.lemmas.List.Sums.{prefix_len_passes}
 use Rattle.std.proofs.lemmas.List.Edits.{length-remove, get_or-remove_below, get_or-remove_above}
 use Rattle.std.proofs.lemmas.List.{get_or-set_same, get_or-set_other, length-set, get_or_push, get_or_append_left, length-append}
 use Rattle.std.proofs.lemmas.Bool.{ltb-false, not-true, eqb-false, cases_eq, cases_lt, cases_Bool}
@@ -11,24 +12,18 @@ use Rattle.book.specs.Deals.{is_number, index_of, in_book}
 abbrev number_at : List Trade → ℕ → ℕ
 number_at rs k = (get_or rs k no_trade).offer.number.0
 
--- what holds of the leading trades holds of each of them
-leading_holds : (p : Trade → Bool) (rs : List Trade) (k : ℕ) → k < prefix_len p rs → p (get_or rs k no_trade) ≡ true
-leading_holds p [] k lt = absurd (omega arith)
-leading_holds p (r ∷ rs) k lt = ⊎_elim
-    (λ (yes : p r ≡ true).
-    let many : prefix_len p (r ∷ rs) ≡ 1 + prefix_len p rs = ap (λ (b : Bool). cond b (1 + prefix_len p rs) 0) yes in
-    let go : (j : ℕ) → j < 1 + prefix_len p rs → p (get_or (r ∷ rs) j no_trade) ≡ true
-    = λ j. elim j as (λ j. j < 1 + prefix_len p rs → p (get_or (r ∷ rs) j no_trade) ≡ true) [ zero ↦ λ h. yes | suc i ↦ λ h. leading_holds p rs i (omega arith) ]
-    in go k (omega (arith, many)))
-    (λ (no : p r ≡ false).
-    let none : prefix_len p (r ∷ rs) ≡ 0 = ap (λ (b : Bool). cond b (1 + prefix_len p rs) 0) no in
-    absurd (omega (arith, none)))
-    (cases_Bool (p r))
+-- what a search by number finds
+found : (b : Bool) (i : ℕ) (o : Option ℕ) → o ≡ cond b (Some i) None → MatchOption o (b ≡ false) (λ k. (k ≡ i) × (b ≡ true))
+found true i o e = subst (λ (x : Option ℕ). MatchOption x (true ≡ false) (λ k. (k ≡ i) × (true ≡ true))) (sym e) (refl, refl)
+found false i o e = subst (λ (x : Option ℕ). MatchOption x (false ≡ false) (λ k. (k ≡ i) × (false ≡ true))) (sym e) refl
+
+pub found_at : (rs : List Trade) (n : ℕ) (o : Option ℕ) → o ≡ position (is_number n) rs → MatchOption o (in_book rs n ≡ false) (λ k. (k ≡ index_of rs n) × (in_book rs n ≡ true))
+found_at rs n o e = found (in_book rs n) (index_of rs n) o e
 
 not_there : (rs : List Trade) (n k : ℕ) → in_book rs n ≡ false → k < length rs → number_at rs k ≡ n → ⊥
 not_there rs n k e lt =
     let far = ltb-false (index_of rs n) (length rs) e in
-    let p = leading_holds (λ r. not (is_number n r)) rs k (omega arith) in
+    let p = prefix_len_passes (λ r. not (is_number n r)) rs k no_trade (omega arith) in
     eqb-false (number_at rs k) n (not-true (is_number n (get_or rs k no_trade)) p)
 
 module _ (rs : List Trade) (apart : Apart rs) where

@@ -35,11 +35,12 @@
 --   deal_of r            a plain answer among those of a call that may be held back
 --   after r new was      new where the call was done, and else was
 --   NotDone r P          P, where the call was not done
+--   IfHeld r P           P, where the call was held back
 --   offered rs o         the trades rs with the offer o entered
 --   confirmed_in rs n    the trades rs with the trade n confirmed
 --   cancelled_in rs n    the trades rs without the trade n
 use Rattle.std.specs.Prelude.{◌≡◌, ℕ, zero, suc, ◌+◌, ◌-◌, Bool, true, false, cond, not, ◌||◌, List, [], ◌∷◌, ◌++◌, length, Some, None, Ok, Err, Option, Result, ◌==◌, nat_le, nat_lt, slice_index_or, slice_set, refl}
-use Rattle.std.specs.List.{prefix_len, remove}
+use Rattle.std.specs.List.{position_or_len, remove}
 use Rattle.figures.specs.Grounds.{first_of}
 use Rattle.figures.specs.Limits.{products, max_hours}
 use Rattle.figures.specs.declared.grounds.Ground.{Ground}
@@ -73,7 +74,7 @@ abbrev pub is_number : ℕ → Trade → Bool
 is_number n r = r.offer.number.0 == n
 
 abbrev pub index_of : List Trade → ℕ → ℕ
-index_of rs n = prefix_len (λ r. not (is_number n r)) rs
+index_of rs n = position_or_len (is_number n) rs
 
 abbrev pub in_book : List Trade → ℕ → Bool
 in_book rs n = nat_lt (index_of rs n) (length rs)
@@ -189,6 +190,11 @@ NotDone (Ok Done) P = Unit
 NotDone (Ok Held) P = P
 NotDone (Err e) P = P
 
+abbrev pub IfHeld : Result Deal BookFault → Type 0 → Type 0
+IfHeld (Ok Done) P = Unit
+IfHeld (Ok Held) P = P
+IfHeld (Err e) P = Unit
+
 abbrev pub offered : List Trade → Offer → List Trade
 offered rs o = rs ++ record { offer = o; state = Offered } ∷ []
 
@@ -200,7 +206,7 @@ cancelled_in rs n = remove rs (index_of rs n)
 
 -- two seats that hold 10 kW each, but seat 0 holds 6 in hour 3, and seat 1's cell is blank from hour 5 on
 abbrev cells : Table
-cells = framed 2 1 (λ s w. cond (s == 0) (Some (cond (w.hour == 3) 6 10)) (cond (nat_lt w.hour 5) (Some 10) None))
+cells = framed 2 1 (λ s w. cond (s == 0) (Some (cond (w.hour.0 == 3) 6 10)) (cond (nat_lt w.hour.0 5) (Some 10) None))
 
 -- seat 0 offers seat 1 k kW of product 0 in zone 0, from hour 2 to hour l
 abbrev sale : ℕ → ℕ → Offer

@@ -3,7 +3,8 @@ use Rattle.std.specs.Prelude.{◌≡◌, ℕ, zero, suc, ◌+◌, ◌<◌, Bool,
 use Rattle.std.proofs.Common.{sym, ap, ◌∙◌, arith, lt-ltb}
 use Rattle.std.proofs.lemmas.List.Sums.{sum_by-cons}
 use Rattle.std.proofs.lemmas.Bool.Decides.{nat_tests}
-use Rattle.sheet.specs.Tables.{Place, Table}
+use Rattle.sheet.specs.declared.places.Place.{Place}
+use Rattle.sheet.specs.Tables.{Table}
 use Rattle.book.specs.declared.trades.Trade.{Trade}
 use Rattle.book.specs.Trades.{no_trade, stands, bought_at, sold_at, Balanced}
 

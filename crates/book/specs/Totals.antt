@@ -1,7 +1,8 @@
 -- A balanced book's totals are those of the sheet below, and its table is as bounded. Assumes nothing.
 use Rattle.std.specs.Prelude.{◌≡◌, ℕ, zero, suc, ◌+◌, ◌≤◌, Bool, true, false, cond, ◌&&◌, List, Some, None, Option, refl}
 use Rattle.std.proofs.Common.{sym, ap, ◌∙◌, arith}
-use Rattle.sheet.specs.Tables.{Place, Table, plus, added_up, filled, filled_up, total_at, filled_at, Bounded}
+use Rattle.sheet.specs.declared.places.Place.{Place}
+use Rattle.sheet.specs.Tables.{Table, plus, added_up, filled, filled_up, total_at, filled_at, Bounded}
 use Rattle.book.specs.declared.trades.Trade.{Trade}
 use Rattle.book.specs.Trades.{bought_at, sold_at, shifted, over, Balanced}
 use Rattle.book.specs.Sums.{sum_to, cancel_out}

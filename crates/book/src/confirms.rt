@@ -1,9 +1,9 @@
-ghost use Rattle.std.specs.Prelude.{◌≡◌, ◌<◌, length, IfOk, slice_index_or, slice_set};
+ghost use Rattle.std.specs.Prelude.{◌≡◌, ◌<◌, true, length, IfOk, slice_index_or, slice_set};
 ghost use Rattle.figures.specs.Grounds.{Judged};
 ghost use Rattle.book.specs.declared.trades.TradeEvent.TheVariants.{Confirm};
 ghost use Rattle.book.specs.Trades.{no_trade, confirmed, turn_of};
 ghost use Rattle.book.specs.declared.trades.TradeState.TheVariants.{Offered};
-ghost use Rattle.book.specs.Deals.{index_of, find_grounds, confirm_answer, confirm_answer_from, confirmed_in, deal_of};
+ghost use Rattle.book.specs.Deals.{index_of, find_grounds, confirm_answer, confirm_answer_from, confirmed_in, begins_before, trade_of, deal_of, IfHeld};
 ghost use Rattle.book.specs.Books.{Lawful, Called};
 
 use crate::deals::Deal;
@@ -38,7 +38,7 @@ impl<S: Sheet> Book<S> {
             return Err(BookFault::NoTrade);
         };
         let mut trade = self.trade_at(index);
-        if trade.offer.buyer.0 != seat.0 {
+        if trade.offer.buyer != seat {
             return Err(BookFault::NotConfirmable);
         }
         trade.turn(TradeEvent::Confirm)?;
@@ -49,10 +49,7 @@ impl<S: Sheet> Book<S> {
     pub fn confirm(&mut self, number: TradeNumber, seat: Seat) -> Result<(), BookFault>
         ensures { Called S.Sheet.table S.Sheet.lawful (confirm_answer number.0 seat.0) (λ rs. confirmed_in rs number.0) self.old (deal_of result) self.new }
     {
-        let index = self.to_confirm(number, seat)?;
-        let offer = self.trade_at(index).offer;
-        self.check_cover(&offer)?;
-        self.stand(index)?;
+        self.confirm_from(number, seat, Hour(0))?;
         Ok(())
     }
 
@@ -63,11 +60,12 @@ impl<S: Sheet> Book<S> {
         seat: Seat,
         from: Hour,
     ) -> Result<Deal, BookFault>
-        ensures { Called S.Sheet.table S.Sheet.lawful (confirm_answer_from from.0 number.0 seat.0) (λ rs. confirmed_in rs number.0) self.old result self.new }
+        ensures call { Called S.Sheet.table S.Sheet.lawful (confirm_answer_from from.0 number.0 seat.0) (λ rs. confirmed_in rs number.0) self.old result self.new }
+        ensures held { IfHeld result (begins_before (trade_of self.old.trades.items number.0).offer from.0 ≡ true) }
     {
         let index = self.to_confirm(number, seat)?;
         let offer = self.trade_at(index).offer;
-        if offer.first.0 < from.0 {
+        if offer.first < from {
             return Ok(Deal::Held);
         }
         self.check_cover(&offer)?;

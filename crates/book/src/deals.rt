@@ -1,5 +1,5 @@
 // How a call that a layer above may hold back has ended, where it was not denied.
-#[derive(Clone, Copy)]
+#[derive(Clone, Copy, PartialEq, Eq, Debug)]
 pub enum Deal {
     Done,
     // The trade begins before the hour that the layer above gave, and the book is as it was.

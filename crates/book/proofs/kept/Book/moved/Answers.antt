@@ -1,13 +1,12 @@
 use Rattle.std.proofs.Common.{◌<◌, List, length, get_or, vec_items, ap, ◌∙◌, arith, take_all}
 use Rattle.std.proofs.lemmas.List.Sums.{sum_by_more}
-use Rattle.sheet.specs.Tables.{at}
 use Rattle.book.specs.declared.trades.Trade.{Trade}
 use Rattle.book.specs.Trades.{no_trade, bought_at, sold_at, buys, sells}
 use Rattle.book.proofs.kept.Book.moved.Goals as goal
 
 pub loop-trade-preserved : goal.loop-trade-preserved
 loop-trade-preserved g c =
-    let w = at c.args.zone.0 c.args.product.0 c.args.hour.0 in
+    let w = c.args.place in
     let many = ap length c.trades-trade-items.ensures in
     let i : c.loop-trade.trade-index < length (vec_items c.args.self.now.trades) = omega (arith, many) in
     let k = (c.args.self.now.fit c.loop-trade.trade-index i).1 in
@@ -22,7 +21,7 @@ loop-trade-preserved g c =
 
 pub returns : goal.returns
 returns g c =
-    let w = at c.args.zone.0 c.args.product.0 c.args.hour.0 in
+    let w = c.args.place in
     let e = take_all c.loop-trade.trade-index c.trades-trade-items.result.now c.loop-trade-test.false ∙ c.trades-trade-items.ensures in
     record {
       bought = c.loop-trade.invariant.2 ∙ ap (bought_at c.args.seat.0 w) e;
