@@ -14,13 +14,17 @@ use Rattle.book.specs.declared.kept.Book.{Book}
 use Rattle.book.specs.declared.trades.Offer.{Offer}
 use Rattle.book.specs.declared.trades.Trade.{Trade}
 use Rattle.book.specs.Trades.{Sound, Balanced}
-use Rattle.book.specs.Deals.{beyond, misfigured, void, offer_grounds, denied_by, decided, decided_from}
+use Rattle.book.specs.Deals.{begins_before, beyond, misfigured, void, offer_grounds, denied_by, decided, decided_from}
 use Rattle.book.specs.Books.{Lawful, AddsUp, Called}
 use Rattle.book.specs.Totals.{over_total}
 
 -- what a derived order says of the numbers inside
-pub before_is : (a k : ℕ) → is_lt (nat_cmp a k) ≡ nat_lt a k
+before_is : (a k : ℕ) → is_lt (nat_cmp a k) ≡ nat_lt a k
 before_is a k = grind (arith, common_steps)
+
+-- the test of the layer above, made on the offer o that was found
+pub begun : (o x : Offer) (h : ℕ) (b : Bool) → o ≡ x → b ≡ is_lt (nat_cmp o.first.0 h) → begins_before x h ≡ b
+begun o x h b e q = ap (λ (y : Offer). begins_before y h) (sym e) ∙ sym (before_is o.first.0 h) ∙ sym q
 
 pub some_none : (e : BookFault) → Some e ≡ None → ⊥
 some_none e q = (let z : ◌≡◌ {A = ℕ} 0 1 = cc in omega (arith, z))
@@ -112,3 +116,27 @@ module _ {S : Type 0} (table : S → Table) (lawful : S → Type 0) (answer : Ta
         trades = subst (λ (x : S). Balanced (table x) (vec_items c.trades)) (sym s) (subst (λ (x : List Trade). Balanced (table b.below) x) (sym e) (k ok).1);
       } in
       record { below = s; trades = e; unaltered = tt; answers = λ ok. (k ok).0; stays = stays; adds_up = λ ok. adds c (stays ok) }
+
+-- a call that a layer above may hold back: grounds, then the layer's test, then the grounds that remain
+module _ {S : Type 0} (table : S → Table) (lawful : S → Type 0) (first rest : Table → List Trade → List (Bool × BookFault)) (late : List Trade → Bool) (new : List Trade → List Trade) (b : Book S) where
+  abbrev pub answer : Table → List Trade → Result Deal BookFault
+  answer t rs = decided_from (first t rs) (late rs) (rest t rs)
+
+  abbrev t : Table
+  t = table b.below
+
+  abbrev rs : List Trade
+  rs = vec_items b.trades
+
+  pub denied_at_first : (e : BookFault) → (Lawful table lawful b → first_of (first t rs) ≡ Some e) → Called table lawful answer new b (Err e) b
+  denied_at_first e q = denied_call table lawful answer new b e (λ ok. denied_first_from (first t rs) (rest t rs) (late rs) e (q ok))
+
+  module _ (pass : Lawful table lawful b → first_of (first t rs) ≡ None) where
+    pub held_back : late rs ≡ true → Called table lawful answer new b (Ok Held) b
+    held_back k = held_call table lawful answer new b (λ ok. held_from (first t rs) (rest t rs) (late rs) (pass ok) k)
+
+    pub denied_at_rest : late rs ≡ false → (e : BookFault) → (Lawful table lawful b → first_of (rest t rs) ≡ Some e) → Called table lawful answer new b (Err e) b
+    denied_at_rest k e q = denied_call table lawful answer new b e (λ ok. denied_later_from (first t rs) (rest t rs) (late rs) e (pass ok) k (q ok))
+
+    pub done : late rs ≡ false → (Lawful table lawful b → first_of (rest t rs) ≡ None) → (c : Book S) → c.below ≡ b.below → vec_items c.trades ≡ new rs → (Lawful table lawful b → Balanced t (new rs)) → Called table lawful answer new b (Ok Done) c
+    done k q c s e keeps = done_call table lawful answer new b c s e (λ ok. (accepted_from (first t rs) (rest t rs) (late rs) (pass ok) k (q ok), keeps ok))

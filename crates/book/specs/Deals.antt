@@ -5,6 +5,7 @@
 --   index_of rs n        the index among rs of the trade with the number n, their length where there is none
 --   in_book rs n         some trade has the number n
 --   trade_of rs n        that trade
+--   IsFound rs n f       f is that trade, which is there, and its index
 --   first_hour p a n     the first of n hours from hour a on at which p holds
 --   first_of_hours o p   the same over the hours of the offer o
 --   is_blank a           the cell a is blank
@@ -39,7 +40,7 @@
 --   offered rs o         the trades rs with the offer o entered
 --   confirmed_in rs n    the trades rs with the trade n confirmed
 --   cancelled_in rs n    the trades rs without the trade n
-use Rattle.std.specs.Prelude.{◌≡◌, ℕ, zero, suc, ◌+◌, ◌-◌, Bool, true, false, cond, not, ◌||◌, List, [], ◌∷◌, ◌++◌, length, Some, None, Ok, Err, Option, Result, ◌==◌, nat_le, nat_lt, slice_index_or, slice_set, refl}
+use Rattle.std.specs.Prelude.{◌≡◌, ℕ, zero, suc, ◌+◌, ◌-◌, ◌<◌, Bool, true, false, cond, not, ◌||◌, List, [], ◌∷◌, ◌++◌, length, Some, None, Ok, Err, Option, Result, ◌==◌, nat_le, nat_lt, slice_index_or, slice_set, refl}
 use Rattle.std.specs.List.{position_or_len, remove}
 use Rattle.figures.specs.Grounds.{first_of}
 use Rattle.figures.specs.Limits.{products, max_hours}
@@ -54,6 +55,7 @@ use Rattle.book.specs.declared.deals.Deal.{Deal}
 use Rattle.book.specs.declared.deals.Deal.TheVariants.{Done, Held}
 use Rattle.book.specs.declared.faults.BookFault.{BookFault}
 use Rattle.book.specs.declared.faults.BookFault.TheVariants.{Beyond, Figure, Void, Known, Full, NoTrade, NotConfirmable, Blank, Short, Spent}
+use Rattle.book.specs.declared.finds.Found.{Found}
 use Rattle.book.specs.declared.trades.Offer.{Offer}
 use Rattle.book.specs.declared.trades.Trade.{Trade}
 use Rattle.book.specs.declared.trades.TradeState.TheVariants.{Offered, Confirmed}
@@ -81,6 +83,11 @@ in_book rs n = nat_lt (index_of rs n) (length rs)
 
 abbrev pub trade_of : List Trade → ℕ → Trade
 trade_of rs n = slice_index_or rs (index_of rs n) no_trade
+
+pub record IsFound (rs : List Trade) (n : ℕ) (f : Found) : Type 0 where
+  pub index : f.index ≡ index_of rs n
+  pub here : index_of rs n < length rs
+  pub trade : f.trade ≡ trade_of rs n
 
 abbrev pub first_hour : (ℕ → Bool) → ℕ → ℕ → Option ℕ
 first_hour p a zero = None

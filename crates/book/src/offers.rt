@@ -1,17 +1,16 @@
 ghost use Rattle.std.specs.Prelude.{◌≡◌, ◌<◌, true, false, length, vec_len, OnOk, slice_index_or};
 ghost use Rattle.figures.specs.Grounds.{Judged};
 ghost use Rattle.figures.specs.Limits.{max_hours};
-ghost use Rattle.std.specs.List.{position};
 ghost use Rattle.book.specs.Limits.{max_trades};
-ghost use Rattle.book.specs.Trades.{no_trade, Fit};
-ghost use Rattle.book.specs.Deals.{is_number, in_book, beyond, misfigured, void, offer_grounds, begins_before, offer_answer, offer_answer_from, offered, deal_of, IfHeld};
+ghost use Rattle.book.specs.Trades.{Fit};
+ghost use Rattle.book.specs.Deals.{in_book, beyond, misfigured, void, offer_grounds, begins_before, offer_answer, offer_answer_from, offered, deal_of, IfHeld};
 ghost use Rattle.book.specs.Books.{Lawful, Called};
 
 use crate::deals::Deal;
 use crate::faults::BookFault;
 use crate::kept::{Book, MAX_TRADES};
 use crate::trades::{Offer, Trade, TradeState};
-use figures::{Hour, MAX_HOURS, PRODUCTS, TradeNumber};
+use figures::{Hour, MAX_HOURS, PRODUCTS};
 use sheet::{MAX_KW, Sheet};
 
 impl Offer {
@@ -31,24 +30,6 @@ impl Offer {
 }
 
 impl<S> Book<S> {
-    // The index of the trade of that number.
-    pub(crate) fn index_of(&self, number: TradeNumber) -> Option<usize>
-        ensures { result ≡ position (is_number number.0) self.now.trades.items }
-    {
-        self.trades
-            .iter()
-            .position(|trade| trade.offer.number == number)
-    }
-
-    // The trade of that index.
-    pub(crate) fn trade_at(&self, index: usize) -> Trade
-        requires here { index < length self.now.trades.items }
-        ensures is { result ≡ slice_index_or self.now.trades.items index no_trade }
-        ensures fit { Fit result.offer }
-    {
-        self.trades[index]
-    }
-
     // Writes the offer behind the other trades.
     fn enter(&mut self, offer: Offer)
         requires fit { Fit offer }

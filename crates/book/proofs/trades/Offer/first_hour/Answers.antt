@@ -1,4 +1,4 @@
-use Rattle.std.proofs.Common.{◌≡◌, ℕ, ◌+◌, ◌-◌, ◌<◌, ◌≤◌, true, false, sym, ◌∙◌, arith}
+use Rattle.std.proofs.Common.{◌+◌, true, false, sym, ◌∙◌, arith}
 use Rattle.book.proofs.Firsts.{first_here, first_next, first_past}
 use Rattle.book.proofs.trades.Offer.first_hour.Goals as goal
 use Rattle.book.proofs.trades.Offer.first_hour.Goals.{else-loop-hour-test, then-loop-hour-test+else-test+else-hour-hour-end}
