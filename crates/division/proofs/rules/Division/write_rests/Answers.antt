@@ -5,32 +5,24 @@ use Rattle.division.specs.Columns.{tenths}
 use Rattle.division.specs.Remainder.{floor_at, rest_at}
 use Rattle.division.proofs.Bounds.{load-le}
 use Rattle.division.proofs.Figures.{length-tenths, tenths-at}
-use Rattle.division.proofs.remainder.write_rests.Goals as goal
+use Rattle.division.proofs.rules.Division.write_rests.Goals as goal
 
-pub due_of-due-requires : goal.due_of-due-requires
-due_of-due-requires c = record { total = c.requires.fair.small; load = load-le c.args.total c.args.loads.now c.requires.fair c.loop-s.s c.loop-s-test.true }
-
-pub overflow_add-given : goal.overflow_add-given
-overflow_add-given c =
-    let s = c.due_of-due.ensures.small in
-    let d = div-le_self c.due_of-due.result c.args.all in
-    let f = c.requires.fair.few in
-    let n = length-tenths c.args.loads.now in
-    omega arith
+pub due-due-requires : goal.due-due-requires
+due-due-requires c = load-le c.args.self.now.total c.args.self.now.loads.now c.args.self.now.fair c.loop-s.s c.loop-s-test.true
 
 pub loop-s-preserved : goal.loop-s-preserved
 loop-s-preserved c =
-    let t = c.args.total in
-    let ls = tenths c.args.loads.now in
+    let t = c.args.self.now.total in
+    let ls = tenths c.args.self.now.loads.now in
     let i = c.loop-s.s in
-    let due = c.due_of-due.result in
-    let s = c.due_of-due.ensures.small in
-    let d = div-le_self due c.args.all in
+    let due = c.due-due.result in
+    let s = c.due-due.ensures.small in
+    let d = div-le_self due c.args.self.now.all in
     let m = sum_by-map-range_with_len_more (λ x. x) (floor_at t ls) 0 i i (omega arith) in
-    let e : due ≡ t * get_or ls i 0 = c.due_of-due.ensures.value ∙ ap (λ (x : ℕ). t * x) (sym (tenths-at c.args.loads.now i c.loop-s-test.true)) in
-    let a = c.requires.all in
-    let f : due / c.args.all ≡ floor_at t ls i = cc in
-    let g : due % c.args.all ≡ rest_at t ls i = cc in
+    let e : due ≡ t * get_or ls i 0 = c.due-due.ensures.value ∙ ap (λ (x : ℕ). t * x) (sym (tenths-at c.args.self.now.loads.now i c.loop-s-test.true)) in
+    let a = c.args.self.now.added in
+    let f : due / c.args.self.now.all ≡ floor_at t ls i = cc in
+    let g : due % c.args.self.now.all ≡ rest_at t ls i = cc in
     let lt : i < length c.loop-s.rests = omega arith in (
       omega arith,
       omega arith,
@@ -41,9 +33,9 @@ loop-s-preserved c =
 
 pub returns : goal.returns
 returns c =
-    let t = c.args.total in
-    let ls = tenths c.args.loads.now in
-    let n = length-tenths c.args.loads.now in
+    let t = c.args.self.now.total in
+    let ls = tenths c.args.self.now.loads.now in
+    let n = length-tenths c.args.self.now.loads.now in
     let e : c.loop-s.s ≡ length ls = omega arith in
     record {
       sum = c.loop-s.invariant.0 ∙ ap (λ (x : ℕ). sum (map (floor_at t ls) (range_with_len 0 x))) e;
