@@ -5,7 +5,7 @@ use Rattle.std.proofs.lemmas.Iterator.Consumers.{YieldsList-from_enumerate, Yiel
 use Rattle.std.proofs.lemmas.List.FromFn.{fill_by_all, length-enumerate_from, get_or-enumerate_from}
 use Rattle.std.proofs.lemmas.List.Sums.{length-filter}
 use Rattle.division.specs.Remainder.{stands}
-use Rattle.division.specs.SeatSums.{count_places}
+use Rattle.figures.specs.SeatSums.{count_places}
 use Rattle.division.proofs.remainder.ahead_of.Goals as goal
 
 placed : (rs : List ℕ) → enumerate_from 0 rs ≡ map (λ (k : ℕ). (k, get_or rs k 0)) (range_with_len 0 (length rs))

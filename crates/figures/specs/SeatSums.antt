@@ -1,15 +1,25 @@
--- Sums over the first n seats.
-use Rattle.std.specs.Prelude.{◌≡◌, ℕ, zero, suc, ◌+◌, ◌*◌, ◌<◌, ◌≤◌, Bool, cond, map, sum_by, sum, count_by, refl}
+-- Adding up over the seats 0 to n - 1, and counting them: lemmas for what stands on the figures. Assumes nothing.
+--   sum_to f n   f added up over these seats
+--   bit b        one where a test holds
+use Rattle.std.specs.Prelude.{◌≡◌, ℕ, zero, suc, ◌+◌, ◌*◌, ◌<◌, ◌≤◌, Bool, true, false, cond, map, sum_by, sum, count_by, refl}
 use Rattle.std.proofs.Common.{subst, ap, add-mul, add-one, arith}
+use mir.Val.{bool_byte}
 use Rattle.std.specs.List.{range_with_len}
 use Rattle.std.proofs.lemmas.List.FromFn.{sum_by-map-range_with_len_more}
 
 abbrev pub sum_to : (ℕ → ℕ) → ℕ → ℕ
 sum_to f n = sum (map f (range_with_len 0 n))
 
--- one where a test holds
 abbrev pub bit : Bool → ℕ
 bit b = cond b 1 0
+
+pub bool_byte_is : (b : Bool) → bool_byte b ≡ bit b
+bool_byte_is true = refl
+bool_byte_is false = refl
+
+pub bit_le : (b : Bool) → bit b ≤ 1
+bit_le true = omega arith
+bit_le false = omega arith
 
 -- one seat more, of a sum over what f gives
 pub sum_by_suc : {X : Type 0} (g : X → ℕ) (f : ℕ → X) (n : ℕ) → sum_by g (map f (range_with_len 0 (suc n))) ≡ sum_by g (map f (range_with_len 0 n)) + g (f n)
