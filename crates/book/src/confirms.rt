@@ -15,7 +15,7 @@ use figures::{Hour, Seat, TradeNumber};
 use sheet::Sheet;
 
 impl<S> Book<S> {
-    // Lets the confirm happen to a trade, which then stands.
+    // Lets the confirm happen to a trade, which then stands. An index, since no struct can hold the place and lend the book too.
     fn stand(&mut self, index: usize) -> Result<Turn, BookFault>
         requires here { index < length self.old.trades.items }
         ensures turn { result ≡ turn_of (slice_index_or self.old.trades.items index no_trade).state Confirm }

@@ -43,7 +43,8 @@ impl Offer {
     }
 }
 
-// Whether a trade is covered, hour by hour.
+// Whether a trade is covered, hour by hour. That the sheet below is lawful is a premise of each answer and no invariant of the
+// type: a book is laid on any sheet, and its maker asks nothing of the caller.
 impl<S: Sheet> Book<S> {
     // Whether in that hour the seller's or the buyer's cell is blank.
     fn blank_at(&self, offer: &Offer, hour: Hour) -> bool

@@ -1,4 +1,5 @@
-// How a call that a layer above may hold back has ended, where it was not denied.
+// How a call that a layer above may hold back has ended, where it was not denied. Held is no fault, since the book denies nothing:
+// the layer above makes a ground of its own of it.
 #[derive(Clone, Copy, PartialEq, Eq, Debug)]
 pub enum Deal {
     Done,

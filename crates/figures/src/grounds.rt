@@ -28,7 +28,8 @@ impl Layer {
     }
 }
 
-// What a denial says: the number of its ground, its layer, and the place of what offends.
+// What a denial says: the number of its ground, its layer, and the place of what offends. The number is a number because it is
+// what a statement prints; why a call was denied is an enum of its layer.
 // The place is an hour, or a byte of a tape, where the ground has one, and 0 elsewhere.
 #[derive(Clone, Copy, PartialEq, Eq, Debug)]
 pub struct Ground {

@@ -69,6 +69,7 @@ fn rounded_cents(n: u64, d: u64) -> Cents
     ensures value { result.0 ≡ pos (rounded n d) }
     ensures nearest { Nearest n d (unsigned_abs result.0) }
 {
+    // An `as` that is proved to fit: `try_from` would add an error that cannot be.
     Cents(half_up(n, d) as i64)
 }
 

@@ -19,6 +19,7 @@ const AWARDS: usize = 128;
 #[derive(Drop)]
 pub struct AwardSheet {
     size: SheetSize,
+    // One row, since an array of arrays would ask for three bounds at each award and want no less room.
     awards: [Option<Kw>; AWARDS],
     ghost small: { (k : ℕ) → k < 128 → filled (kilowatts (slice_index_or awards k None)) ≤ max_award },
 }
@@ -42,7 +43,7 @@ impl AwardSheet {
         }
     }
 
-    // Enters an award of `kw` for every hour. Each cell takes one, and 0 kW is one.
+    // Enters an award of `kw` for every hour. Each cell takes one, and 0 kW is one. It has no hour, and so no `Place`.
     pub fn award(
         &mut self,
         seat: Seat,

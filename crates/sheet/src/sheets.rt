@@ -35,6 +35,7 @@ pub trait Sheet {
     {
         let seats = self.seats();
         let mut sum: u32 = 0;
+        // Each number is asked for, and no list is indexed: of a chain that sums into an Option nothing is known where it fails.
         for seat in 0..seats {
             sum = sum.saturating_add(self.cell(Seat(seat), place)?.0);
         }
