@@ -11,6 +11,17 @@ use crate::trades::{Trade, TradeEvent, Turn};
 use figures::{Hour, TradeNumber};
 use sheet::Sheet;
 
+impl<S> Book<S> {
+    // Takes a trade out of the book.
+    fn strike(&mut self, index: usize)
+        requires here { index < length self.old.trades.items }
+        ensures below { self.new.below ≡ self.old.below }
+        ensures trades { self.new.trades.items ≡ remove self.old.trades.items index }
+    {
+        self.trades.remove(index);
+    }
+}
+
 impl<S: Sheet> Book<S> {
     // Whether the trade may leave the book: what a confirmed one brought, its buyer still holds.
     fn spares(&self, trade: &Trade) -> Result<(), BookFault>
@@ -44,7 +55,7 @@ impl<S: Sheet> Book<S> {
             return Ok(Deal::Held);
         }
         self.spares(&found.trade)?;
-        self.trades.remove(found.index);
+        self.strike(found.index);
         Ok(Deal::Done)
     }
 }
