@@ -6,7 +6,7 @@ ghost use Rattle.division.specs.declared.rules.DivisionFault.TheVariants.{Beyond
 
 use figures::{Cents, Ground, Layer, Load, MAX_SEATS};
 
-// The largest total that a rule divides, in cents.
+// The largest total that a rule divides, in cents. A plain number, since its opposite is a limit too.
 pub const MAX_TOTAL: i64 = 1_500_000_000_000;
 // The largest load of a seat.
 pub const MAX_LOAD: Load = Load(300_000);
@@ -45,7 +45,8 @@ pub trait DivisionRule {
     // What the rule means: the shares of a total over loads.
     ghost shares: { Self → ℕ → List ℕ → List ℕ };
 
-    // Writes one share a seat, or denies and leaves the column as it was.
+    // Writes one share a seat, or denies and leaves the column as it was. Each rule begins with `Division::new`; a body here
+    // would need a public step that asks its caller for a column of the right length.
     fn divide(&self, total: Cents, loads: &[Load], out: &mut [Cents]) -> Result<(), DivisionFault>
         ensures { RuleDivided (shares self.now) total.0 (tenths loads.now) out.old result out.new };
 
