@@ -13,11 +13,9 @@ pub(crate) fn shares_line(
 ) -> Result<String, AllocError>
     ensures { IfOk result (λ s. string_bytes s ≡ shares_text letter (amounts shares.now)) }
 {
-    let mut line = String::new(heap);
-    line.push(letter)?;
+    let mut line = format!(in heap; "{letter}")?;
     for share in shares {
-        let part = format!(in heap; " {}", share.0)?;
-        line.push_str(&part)?;
+        write!(line, " {}", share.0)?;
     }
     Ok(line)
 }
