@@ -1,30 +1,19 @@
 -- A bill from its fields, and an answer's text from what a division answered.
-use Rattle.std.proofs.Common.{◌≡◌, ℕ, ◌+◌, ◌<◌, List, [], ◌∷◌, ◌++◌, map, length, get_or, take, ℤ, pos, Some, None, Ok, Err, Option, sym, refl, ap, ◌∙◌, arith}
+use Rattle.std.proofs.Common.{◌≡◌, ℕ, List, [], ◌∷◌, map, length, ℤ, Some, None, Ok, Option, sym, refl, ap, ◌∙◌, arith}
 use mathlib.Core.List.{map-map}
 use Rattle.std.specs.Int.{saturate_to_bits}
 use Rattle.std.specs.Option.{option_map}
-use Rattle.std.proofs.lemmas.List.{length-map, map_push, map_more, nil_from_length}
+use Rattle.std.proofs.lemmas.List.{length-map, nil_from_length}
 use Rattle.figures.specs.Grounds.{first_of}
 use Rattle.figures.specs.declared.units.Cents.{Cents}
-use Rattle.figures.specs.declared.units.Load.{Load}
-use Rattle.division.specs.Columns.{tenths, amounts}
-use Rattle.division.specs.Rules.{signed_grounds, signed_shares, ground_of, SignedDivided}
+use Rattle.division.specs.Columns.{amounts}
+use Rattle.division.specs.Rules.{signed_grounds, signed_shares, SignedDivided}
 use Rattle.division.specs.declared.rules.DivisionFault.{DivisionFault}
 use Rattle.division.proofs.Signs.{amounts_cents}
 use Rattle.bill.specs.Figures.{figure_of}
 use Rattle.bill.specs.Fields.{value_of, Values}
-use Rattle.bill.specs.Lines.{shares_text, denied_text}
+use Rattle.bill.specs.Lines.{shares_text}
 use Rattle.bill.specs.Bills.{carried, ReadAs, answered, answer_text}
-
--- one load more
-pub loads_more : (vs ws : List Load) (l : Load) (xs : List ℤ) (i : ℕ) → i < length xs → ws ≡ vs ++ (l ∷ []) → tenths vs ≡ map carried (take i xs)
-    → l.0 ≡ carried (get_or xs i (pos 0)) → tenths ws ≡ map carried (take (i + 1) xs)
-loads_more vs ws l xs i lt w e v =
-    ap tenths w
-    ∙ (map_push (λ (k : Load). k.0) vs l
-    ∙ (ap (λ (ns : List ℕ). ns ++ (l.0 ∷ [])) e
-    ∙ (ap (λ (n : ℕ). map carried (take i xs) ++ (n ∷ [])) v
-    ∙ sym (map_more carried xs i (pos 0) lt))))
 
 -- what the figures are that were carried as the nearest of 64 bits
 exact : (fs : List (List ℕ)) (vs : List ℤ) → Values fs vs → (zs : List ℤ) × (map figure_of fs ≡ map Some zs) × (vs ≡ map (saturate_to_bits 63) zs)
@@ -65,6 +54,3 @@ module _ (code : ℕ) (f : ℕ → List ℕ → List ℕ) (z : ℤ) (ls : List �
 
   pub shares_text_lem : SignedDivided f z ls was (Ok tt) out → answer_text code f z ls ≡ shares_text code (amounts out)
   shares_text_lem d = grounds None d.judged ∙ ap (shares_text code) (sym (ap amounts d.column ∙ amounts_cents (signed_shares f z ls)))
-
-  pub denial_text : (e : DivisionFault) → SignedDivided f z ls was (Err e) out → answer_text code f z ls ≡ denied_text code (ground_of e)
-  denial_text e d = grounds (Some e) d.judged

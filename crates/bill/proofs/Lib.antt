@@ -1,4 +1,3 @@
 mod Answering
 mod Clipping
 mod Cuts
-mod Numbers

@@ -1,6 +1,5 @@
 -- The fields of a line, and what reading them answers. Assumes nothing.
 --   blank b             b is a space, a tab or a carriage return
---   of_kind w b         b is blank, or, where w is false, is not
 --   closed f fs         the fields fs after the field f; an empty f is no field
 --   fields_after f bs   the fields of bs, the first of them begun by f
 --   fields_of bs        the fields of bs, in order: its longest runs of bytes that are not blank
@@ -8,21 +7,17 @@
 --   Values fs zs        each of the fields fs is a figure, and zs are their values in order
 --   Failing fs e        the fault e is right of the fields fs: at NotFigure k the first k - 1 are figures and the k-th is none;
 --                       a blank line is no fault here, since it gives no figures; NoMemory says nothing
-use Rattle.std.specs.Prelude.{◌≡◌, ℕ, ◌-◌, ◌<◌, ◌≤◌, Bool, true, false, cond, not, ◌||◌, List, [], ◌∷◌, ◌++◌, map, length, take, ℤ, pos, negsuc, is_some, Some, None, codes, Option, ◌==◌, slice_index_or, refl}
+use Rattle.std.specs.Prelude.{◌≡◌, ℕ, ◌-◌, ◌<◌, ◌≤◌, Bool, true, cond, ◌||◌, List, [], ◌∷◌, ◌++◌, map, length, take, ℤ, pos, negsuc, is_some, Some, None, codes, Option, ◌==◌, slice_index_or, refl}
 use Rattle.std.proofs.Common.{lit<, lit≤}
 use Rattle.std.specs.Int.{saturate_to_bits}
 use Rattle.std.specs.Option.{option_map}
-use Rattle.std.specs.List.{AllByRecursion}
+use Rattle.std.specs.List.{list_all}
 use Rattle.bill.specs.Figures.{figure_of}
 use Rattle.bill.specs.declared.fields.LineFault.{LineFault}
 use Rattle.bill.specs.declared.fields.LineFault.TheVariants.{Blank, NotFigure, NoMemory}
 
 abbrev pub blank : ℕ → Bool
 blank b = b == 32 || (b == 9 || b == 13)
-
-abbrev pub of_kind : Bool → ℕ → Bool
-of_kind true b = blank b
-of_kind false b = not (blank b)
 
 abbrev pub closed : List ℕ → List (List ℕ) → List (List ℕ)
 closed [] fs = fs
@@ -42,7 +37,7 @@ abbrev pub Values : List (List ℕ) → List ℤ → Type 0
 Values fs zs = map value_of fs ≡ map Some zs
 
 abbrev pub Failing : List (List ℕ) → LineFault → Type 0
-Failing fs (NotFigure k) = (0 < k) × (k ≤ length fs) × AllByRecursion (λ f. is_some (figure_of f) ≡ true) (take (k - 1) fs) × (figure_of (slice_index_or fs (k - 1) []) ≡ None)
+Failing fs (NotFigure k) = (0 < k) × (k ≤ length fs) × (list_all (λ f. is_some (figure_of f)) (take (k - 1) fs) ≡ true) × (figure_of (slice_index_or fs (k - 1) []) ≡ None)
 Failing fs Blank = ⊥
 Failing fs NoMemory = Unit {0}
 
@@ -56,4 +51,4 @@ far : value_of (codes "9223372036854775808") ≡ Some (pos 9223372036854775807)
 far = refl
 
 second : Failing (fields_of (codes "12 x -3")) (NotFigure 2)
-second = (lit< tt, lit≤ tt, (refl, tt), refl)
+second = (lit< tt, lit≤ tt, refl, refl)

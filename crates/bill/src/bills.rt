@@ -1,4 +1,4 @@
-ghost use Rattle.std.specs.Prelude.{◌≡◌, map, length, IfOk, string_bytes, MatchResult};
+ghost use Rattle.std.specs.Prelude.{◌≡◌, map, IfOk, string_bytes, MatchResult};
 ghost use Rattle.division.specs.Columns.{tenths};
 ghost use Rattle.bill.specs.Fields.{fields_of};
 ghost use Rattle.bill.specs.Bills.{carried, ReadAs, Unread, Answered, answer_text};
@@ -6,7 +6,7 @@ ghost use Rattle.bill.specs.Bills.{carried, ReadAs, Unread, Answered, answer_tex
 use crate::fields::{LineFault, read_figures};
 use crate::text::{denied_line, shares_line};
 use division::{DivisionRule, LargestRemainder, RunningCut, divide_signed};
-use figures::{Cents, Load};
+use figures::{Cents, Ground, Load};
 use std::alloc::{AllocError, Global};
 
 // A total to be divided, and the loads of the seats in order.
@@ -22,7 +22,7 @@ impl Bill {
         ensures { MatchResult result (λ b. ReadAs (fields_of line.now) b.total.0 (tenths b.loads.items)) (λ e. Unread (fields_of line.now) e) }
     {
         let values = read_figures(heap, line)?;
-        let Some((total, rest)) = values.as_slice().split_first() else {
+        let Some((total, rest)) = values.split_first() else {
             return Err(LineFault::Blank);
         };
         let loads = loads_of(heap, rest)?;
@@ -33,54 +33,28 @@ impl Bill {
     }
 }
 
-// A figure as a load. One that no load can hold is carried as the largest, so that a rule denies it.
-fn load_of(figure: i64) -> Load
-    ensures { result.0 ≡ carried figure }
-{
-    match u32::try_from(figure) {
-        Ok(tenths) => Load(tenths),
-        Err(_) => Load(u32::MAX),
-    }
-}
-
+// Each figure as a load. One that no load can hold is carried as the largest, so that a rule denies it.
 fn loads_of(heap: Global, figures: &[i64]) -> Result<Vec<Load>, AllocError>
     ensures { IfOk result (λ v. tenths v.items ≡ map carried figures.now) }
 {
-    let mut loads = Vec::new(heap);
-    for figure in figures {
-        loads.push(load_of(*figure))?;
-    }
-    Ok(loads)
+    figures.iter().map(|figure| load_of(*figure)).collect(heap)
+}
+
+fn load_of(figure: i64) -> Load
+    ensures { result.0 ≡ carried figure }
+{
+    Load(u32::try_from(figure).unwrap_or(u32::MAX))
 }
 
 // What a rule answers to a bill: its letter and the shares, or its letter and the denial.
 fn answer<R: DivisionRule>(heap: Global, rule: &R, bill: &Bill) -> Result<String, AllocError>
-    ensures { IfOk result (λ s. string_bytes s ≡ answer_text R.DivisionRule.code (R.DivisionRule.shares rule.now) bill.now.total.0 (tenths bill.now.loads.items)) }
+    ensures { IfOk result (λ s. string_bytes s ≡ answer_text R.LETTER (R.DivisionRule.shares rule.now) bill.now.total.0 (tenths bill.now.loads.items)) }
 {
     let mut column = vec![in heap; Cents(0); bill.loads.len()]?;
-    answer_in(
-        heap,
-        rule,
-        bill.total,
-        bill.loads.as_slice(),
-        column.as_mut_slice(),
-    )
-}
-
-// Divides into the column, and writes what came of it.
-fn answer_in<R: DivisionRule>(
-    heap: Global,
-    rule: &R,
-    total: Cents,
-    loads: &[Load],
-    column: &mut [Cents],
-) -> Result<String, AllocError>
-    requires { length column.old ≡ length loads.now }
-    ensures { IfOk result (λ s. string_bytes s ≡ answer_text R.DivisionRule.code (R.DivisionRule.shares rule.now) total.0 (tenths loads.now)) }
-{
-    match divide_signed(rule, total, loads, column) {
-        Ok(()) => shares_line(heap, R::heading(), column),
-        Err(fault) => denied_line(heap, R::heading(), fault.ground()),
+    let shares = column.as_mut_slice();
+    match divide_signed(rule, bill.total, &bill.loads, shares) {
+        Ok(()) => shares_line(heap, R::LETTER, shares),
+        Err(fault) => denied_line(heap, R::LETTER, Ground::from(fault)),
     }
 }
 

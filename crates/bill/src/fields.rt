@@ -1,11 +1,10 @@
-ghost use Rattle.std.specs.Prelude.{◌≡◌, ◌-◌, ◌^◌, ◌<◌, min, [], ◌∷◌, length, pos, neg_ℤ, Some, MatchOption, MatchResult};
+ghost use Rattle.std.specs.Prelude.{◌≡◌, ◌-◌, ◌^◌, min, Some, MatchResult};
 ghost use Rattle.std.specs.Int.{saturate_to_bits};
 ghost use Rattle.std.specs.Option.{option_map};
-ghost use Rattle.std.specs.List.{prefix_len};
 ghost use Rattle.bill.specs.declared.fields.LineFault.TheVariants.{NoMemory};
 ghost use Rattle.bill.specs.Messages.{message_of};
 ghost use Rattle.bill.specs.Figures.{number_of, figure_of};
-ghost use Rattle.bill.specs.Fields.{blank, of_kind, fields_of, Values, Failing};
+ghost use Rattle.bill.specs.Fields.{blank, fields_of, Values, Failing};
 
 use std::alloc::{AllocError, AllocFailed, Global};
 use std::fmt;
@@ -44,6 +43,7 @@ impl From<AllocError> for LineFault {
     }
 }
 
+// A second one, since a push fails with another type than a new vector, and `?` meets both.
 impl<T: Drop> From<AllocFailed<T>> for LineFault {
     ghost from_gives = { λ _ r. r ≡ NoMemory };
 
@@ -69,60 +69,20 @@ fn number(digits: &[u8]) -> Option<u64>
     Some(n)
 }
 
-// n, or i64::MAX where n is larger.
-fn clamped(n: u64) -> i64
-    ensures { result ≡ saturate_to_bits 63 (pos n) }
-{
-    n.min(i64::MAX as u64) as i64
-}
-
-// -n, or i64::MIN where that is smaller.
-fn clamped_opposite(n: u64) -> i64
-    ensures { result ≡ saturate_to_bits 63 (neg_ℤ (pos n)) }
-{
-    if n > i64::MAX as u64 {
-        return i64::MIN;
-    }
-    -(n as i64)
-}
-
 // The integer that a field writes: an optional '-', then digits. Past 64 bits it is the nearest i64.
-pub(crate) fn figure(field: &[u8]) -> Option<i64>
+fn figure(field: &[u8]) -> Option<i64>
     ensures { result ≡ option_map (saturate_to_bits 63) (figure_of field.now) }
 {
     match field {
-        [b'-', digits @ ..] => Some(clamped_opposite(number(digits)?)),
-        _ => Some(clamped(number(field)?)),
+        [b'-', digits @ ..] => number(digits).map(|n| 0i64.saturating_sub_unsigned(n)),
+        _ => number(field).map(|n| 0i64.saturating_add_unsigned(n)),
     }
 }
 
 fn is_blank(b: u8) -> bool
     ensures { result ≡ blank b }
 {
-    b == b' ' || b == b'\t' || b == b'\r'
-}
-
-// How many bytes at the front are blank, or, where `blanks` is false, are not.
-fn run_len(line: &[u8], blanks: bool) -> usize
-    ensures { result ≡ prefix_len (of_kind blanks) line.now }
-{
-    for (i, b) in line.iter().enumerate() {
-        if is_blank(*b) != blanks {
-            return i;
-        }
-    }
-    line.len()
-}
-
-// The first field, and what follows it.
-fn next_field(line: &[u8]) -> Option<(&[u8], &[u8])>
-    ensures { MatchOption result (fields_of line.now ≡ []) (λ p. (fields_of line.now ≡ p.0.now ∷ fields_of p.1.now) × (length p.1.now < length line.now)) }
-{
-    let (_, rest) = line.split_at(run_len(line, true));
-    if rest.is_empty() {
-        return None;
-    }
-    Some(rest.split_at(run_len(rest, false)))
+    matches!(b, b' ' | b'\t' | b'\r')
 }
 
 // The figures of a line, in order.
@@ -130,13 +90,14 @@ pub(crate) fn read_figures(heap: Global, line: &[u8]) -> Result<Vec<i64>, LineFa
     ensures { MatchResult result (λ v. Values (fields_of line.now) v.items) (λ e. Failing (fields_of line.now) e) }
 {
     let mut values = Vec::new(heap);
-    let mut rest = line;
-    while let Some((field, after)) = next_field(rest) {
+    for field in line
+        .split(|b| is_blank(*b))
+        .filter(|field| !field.is_empty())
+    {
         let Some(value) = figure(field) else {
             return Err(LineFault::NotFigure(values.len() + 1));
         };
         values.push(value)?;
-        rest = after;
     }
     Ok(values)
 }

@@ -13,12 +13,9 @@ pub(crate) fn shares_line(
 ) -> Result<String, AllocError>
     ensures { IfOk result (λ s. string_bytes s ≡ shares_text letter (amounts shares.now)) }
 {
-    let mut line = String::new(heap);
-    line.push(letter)?;
+    let mut line = format!(in heap; "{letter}")?;
     for share in shares {
-        let amount = share.0;
-        let part = format!(in heap; " {amount}")?;
-        line.push_str(part.as_str())?;
+        write!(line, " {}", share.0)?;
     }
     Ok(line)
 }
@@ -27,7 +24,5 @@ pub(crate) fn shares_line(
 pub(crate) fn denied_line(heap: Global, letter: char, ground: Ground) -> Result<String, AllocError>
     ensures { IfOk result (λ s. string_bytes s ≡ denied_text letter ground) }
 {
-    let number = ground.number;
-    let layer = ground.layer.letter();
-    format!(in heap; "{letter} ? {number} {layer}")
+    format!(in heap; "{letter} ? {ground}")
 }

@@ -3,7 +3,8 @@ use Rattle.std.proofs.Common.{◌≡◌, ℕ, suc, ◌+◌, ◌-◌, ◌<◌, �
 use Rattle.std.specs.List.{remove}
 use Rattle.std.proofs.lemmas.List.Sums.{sum_by-set, sum_by_push, sum_by-append, sum_by-take-drop, sum_by-drop_more}
 use Rattle.std.proofs.lemmas.Bool.{and_parts, leb-true, ltb-false, eqb-true}
-use Rattle.sheet.specs.Tables.{Place, Table, at, filled}
+use Rattle.sheet.specs.declared.places.Place.{Place}
+use Rattle.sheet.specs.Tables.{Table, at, filled}
 use Rattle.book.specs.declared.trades.Offer.{Offer}
 use Rattle.book.specs.declared.trades.Trade.{Trade}
 use Rattle.book.specs.declared.trades.TradeState.{TradeState}
@@ -50,15 +51,15 @@ blank_cell b s (Some x) q e = (let z : ◌≡◌ {A = ℕ} 0 1 = cc in omega (ar
 reached : (o : Offer) (p : ℕ → Place → Bool) (x s : ℕ) (w : Place) → first_of_hours o (λ h. p x (at o.zone.0 o.product.0 h)) ≡ None → (reaches o w && eqb x s) ≡ true → p s w ≡ false
 reached o p x s w e k =
     let r = and_parts (reaches o w) (eqb x s) k in
-    let z = and_parts (eqb o.zone.0 w.zone) _ r.0 in
-    let d = and_parts (eqb o.product.0 w.product) _ z.1 in
-    let h = and_parts (leb o.first.0 w.hour) _ d.1 in
-    let lo = leb-true o.first.0 w.hour h.0 in
-    let hi = leb-true w.hour o.last.0 h.1 in
-    let m = first_none (λ h. p x (at o.zone.0 o.product.0 h)) o.first.0 (o.last.0 + 1) w.hour e lo (omega arith) in
+    let z = and_parts (eqb o.zone.0 w.zone.0) _ r.0 in
+    let d = and_parts (eqb o.product.0 w.product.0) _ z.1 in
+    let h = and_parts (leb o.first.0 w.hour.0) _ d.1 in
+    let lo = leb-true o.first.0 w.hour.0 h.0 in
+    let hi = leb-true w.hour.0 o.last.0 h.1 in
+    let m = first_none (λ h. p x (at o.zone.0 o.product.0 h)) o.first.0 (o.last.0 + 1) w.hour.0 e lo (omega arith) in
     subst (λ (q : ℕ). p q w ≡ false) (eqb-true x s r.1)
-    (subst (λ (q : ℕ). p x (at q w.product w.hour) ≡ false) (eqb-true o.zone.0 w.zone z.0)
-    (subst (λ (q : ℕ). p x (at o.zone.0 q w.hour) ≡ false) (eqb-true o.product.0 w.product d.0) m))
+    (subst (λ (q : ℕ). p x (at q w.product.0 w.hour.0) ≡ false) (eqb-true o.zone.0 w.zone.0 z.0)
+    (subst (λ (q : ℕ). p x (at o.zone.0 q w.hour.0) ≡ false) (eqb-true o.product.0 w.product.0 d.0) m))
 
 sum_removed : (f : Trade → ℕ) (rs : List Trade) (i : ℕ) → i < length rs → sum_by f (remove rs i) + f (get_or rs i no_trade) ≡ sum_by f rs
 sum_removed f rs i lt =

@@ -1,6 +1,9 @@
 -- From what the code found to what a call promises. Assumes nothing.
 use Rattle.std.proofs.Common.{◌≡◌, ℕ, Bool, true, false, cond, eqb, leb, List, [], ◌∷◌, ◌++◌, Some, None, Ok, Err, vec_items, Option, Result, sym, refl, ap, ◌∙◌, subst, arith}
-use Rattle.std.proofs.lemmas.Bool.{or_parts, leb-false, eqb-false}
+use Rattle.std.specs.Ordering.{is_lt, nat_cmp}
+use Rattle.std.specs.Prelude.{nat_lt}
+use Rattle.std.proofs.lemmas.Grind.{common_steps}
+use Rattle.std.proofs.lemmas.Bool.{le-ltb, ltb-true, or_parts, leb-false, eqb-false}
 use Rattle.figures.specs.Grounds.{first_of}
 use Rattle.sheet.specs.Tables.{Table}
 use Rattle.book.specs.declared.deals.Deal.{Deal}
@@ -11,47 +14,39 @@ use Rattle.book.specs.declared.kept.Book.{Book}
 use Rattle.book.specs.declared.trades.Offer.{Offer}
 use Rattle.book.specs.declared.trades.Trade.{Trade}
 use Rattle.book.specs.Trades.{Sound, Balanced}
-use Rattle.book.specs.Deals.{beyond, misfigured, void, offer_grounds, denied_by, decided, decided_from}
+use Rattle.book.specs.Deals.{begins_before, IfHeld, beyond, misfigured, void, offer_grounds, denied_by, decided, decided_from}
 use Rattle.book.specs.Books.{Lawful, AddsUp, Called}
 use Rattle.book.specs.Totals.{over_total}
+
+-- what a derived order says of the numbers inside
+before_is : (a k : ℕ) → is_lt (nat_cmp a k) ≡ nat_lt a k
+before_is a k = grind (arith, common_steps)
+
+-- the test of the layer above, made on the offer o that was found
+pub begun : (o x : Offer) (h : ℕ) (b : Bool) → o ≡ x → b ≡ is_lt (nat_cmp o.first.0 h) → begins_before x h ≡ b
+begun o x h b e q = ap (λ (y : Offer). begins_before y h) (sym e) ∙ sym (before_is o.first.0 h) ∙ sym q
 
 pub some_none : (e : BookFault) → Some e ≡ None → ⊥
 some_none e q = (let z : ◌≡◌ {A = ℕ} 0 1 = cc in omega (arith, z))
 
 -- grounds one after the other
-skip : (b : Bool) (e : BookFault) (x y z : Option BookFault) → (x ≡ None → y ≡ z) → cond b (Some e) x ≡ None → cond b (Some e) y ≡ z
-skip true e x y z k q = absurd (some_none e q)
-skip false e x y z k q = k q
+pick : (b : Bool) (e : BookFault) (x y : Option BookFault) (r : Result Deal BookFault) → denied_by x r ≡ denied_by y (Ok Done) → denied_by (cond b (Some e) x) r ≡ denied_by (cond b (Some e) y) (Ok Done)
+pick true e x y r k = refl
+pick false e x y r k = k
 
-stop : (b : Bool) (e f : BookFault) (x y : Option BookFault) → (x ≡ Some f → y ≡ Some f) → cond b (Some e) x ≡ Some f → cond b (Some e) y ≡ Some f
-stop true e f x y k q = q
-stop false e f x y k q = k q
+joined : (gs hs : List (Bool × BookFault)) → denied_by (first_of gs) (decided hs) ≡ decided (gs ++ hs)
+joined [] hs = refl
+joined (g ∷ gs) hs = pick g.0 g.1 (first_of gs) (first_of (gs ++ hs)) (decided hs) (joined gs hs)
 
-module _ (hs : List (Bool × BookFault)) where
-  later : (gs : List (Bool × BookFault)) → first_of gs ≡ None → first_of (gs ++ hs) ≡ first_of hs
-  later [] e = refl
-  later (g ∷ gs) e = skip g.0 g.1 (first_of gs) (first_of (gs ++ hs)) (first_of hs) (later gs) e
+-- with hour 0 nothing is held back
+pub plain : (gs hs : List (Bool × BookFault)) (o : Offer) → decided_from gs (begins_before o 0) hs ≡ decided (gs ++ hs)
+plain gs hs o = ap (λ (b : Bool). denied_by (first_of gs) (cond b (Ok Held) (decided hs))) (le-ltb o.first.0 0 (omega arith)) ∙ joined gs hs
 
-  sooner : (gs : List (Bool × BookFault)) (f : BookFault) → first_of gs ≡ Some f → first_of (gs ++ hs) ≡ Some f
-  sooner [] f e = absurd (some_none f (sym e))
-  sooner (g ∷ gs) f e = stop g.0 g.1 f (first_of gs) (first_of (gs ++ hs)) (sooner gs f) e
-
-pub denied_one : (gs : List (Bool × BookFault)) (e : BookFault) → first_of gs ≡ Some e → Err e ≡ decided gs
-denied_one gs e q = sym (ap (λ o. denied_by o (Ok Done)) q)
-
-pub accepted_one : (gs : List (Bool × BookFault)) → first_of gs ≡ None → Ok Done ≡ decided gs
-accepted_one gs q = sym (ap (λ o. denied_by o (Ok Done)) q)
+pub only_done : (d : Deal) (o : Offer) → IfHeld (Ok d) (begins_before o 0 ≡ true) → ◌≡◌ {A = Result Deal BookFault} (Ok d) (Ok Done)
+only_done Done o h = refl
+only_done Held o h = (let lt = ltb-true o.first.0 0 h in absurd (omega arith))
 
 module _ (gs hs : List (Bool × BookFault)) where
-  pub denied_first : (e : BookFault) → first_of gs ≡ Some e → Err e ≡ decided (gs ++ hs)
-  denied_first e q = sym (ap (λ o. denied_by o (Ok Done)) (sooner hs gs e q))
-
-  pub denied_later : (e : BookFault) → first_of gs ≡ None → first_of hs ≡ Some e → Err e ≡ decided (gs ++ hs)
-  denied_later e q k = sym (ap (λ o. denied_by o (Ok Done)) (later hs gs q ∙ k))
-
-  pub accepted : first_of gs ≡ None → first_of hs ≡ None → Ok Done ≡ decided (gs ++ hs)
-  accepted q k = sym (ap (λ o. denied_by o (Ok Done)) (later hs gs q ∙ k))
-
   module _ (b : Bool) where
     abbrev rest : Result Deal BookFault
     rest = cond b (Ok Held) (decided hs)
@@ -105,3 +100,39 @@ module _ {S : Type 0} (table : S → Table) (lawful : S → Type 0) (answer : Ta
         trades = subst (λ (x : S). Balanced (table x) (vec_items c.trades)) (sym s) (subst (λ (x : List Trade). Balanced (table b.below) x) (sym e) (k ok).1);
       } in
       record { below = s; trades = e; unaltered = tt; answers = λ ok. (k ok).0; stays = stays; adds_up = λ ok. adds c (stays ok) }
+
+-- a call that a layer above may hold back: grounds, then the layer's test, then the grounds that remain
+module _ {S : Type 0} (table : S → Table) (lawful : S → Type 0) (first rest : Table → List Trade → List (Bool × BookFault)) (late : List Trade → Bool) (new : List Trade → List Trade) (b : Book S) where
+  abbrev pub answer : Table → List Trade → Result Deal BookFault
+  answer t rs = decided_from (first t rs) (late rs) (rest t rs)
+
+  abbrev t : Table
+  t = table b.below
+
+  abbrev rs : List Trade
+  rs = vec_items b.trades
+
+  pub denied_at_first : (e : BookFault) → (Lawful table lawful b → first_of (first t rs) ≡ Some e) → Called table lawful answer new b (Err e) b
+  denied_at_first e q = denied_call table lawful answer new b e (λ ok. denied_first_from (first t rs) (rest t rs) (late rs) e (q ok))
+
+  module _ (pass : Lawful table lawful b → first_of (first t rs) ≡ None) where
+    pub held_back : late rs ≡ true → Called table lawful answer new b (Ok Held) b
+    held_back k = held_call table lawful answer new b (λ ok. held_from (first t rs) (rest t rs) (late rs) (pass ok) k)
+
+    pub denied_at_rest : late rs ≡ false → (e : BookFault) → (Lawful table lawful b → first_of (rest t rs) ≡ Some e) → Called table lawful answer new b (Err e) b
+    denied_at_rest k e q = denied_call table lawful answer new b e (λ ok. denied_later_from (first t rs) (rest t rs) (late rs) e (pass ok) k (q ok))
+
+    pub done : late rs ≡ false → (Lawful table lawful b → first_of (rest t rs) ≡ None) → (c : Book S) → c.below ≡ b.below → vec_items c.trades ≡ new rs → (Lawful table lawful b → Balanced t (new rs)) → Called table lawful answer new b (Ok Done) c
+    done k q c s e keeps = done_call table lawful answer new b c s e (λ ok. (accepted_from (first t rs) (rest t rs) (late rs) (pass ok) k (q ok), keeps ok))
+
+-- a call under grounds that say the same
+pub same_call : {S : Type 0} (table : S → Table) (lawful : S → Type 0) (one other : Table → List Trade → Result Deal BookFault) (new : List Trade → List Trade) (b : Book S) (r s : Result Deal BookFault) (c : Book S)
+    → ((t : Table) (rs : List Trade) → one t rs ≡ other t rs) → r ≡ s → Called table lawful one new b r c → Called table lawful other new b s c
+same_call table lawful one other new b r s c same e k = subst (λ (x : Result Deal BookFault). Called table lawful other new b x c) e (record {
+  below = k.below;
+  trades = k.trades;
+  unaltered = k.unaltered;
+  answers = λ ok. k.answers ok ∙ same (table b.below) (vec_items b.trades);
+  stays = k.stays;
+  adds_up = k.adds_up;
+})

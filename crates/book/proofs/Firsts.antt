@@ -14,6 +14,9 @@ module _ (p : ℕ → Bool) where
   pub first_next : (a u : ℕ) → a < u → p a ≡ false → first_hour p a (u - a) ≡ first_hour p (a + 1) (u - (a + 1))
   first_next a u h e = unrolled a (u - a) (u - (a + 1)) (omega arith) ∙ ap (λ (b : Bool). cond b (Some a) (first_hour p (a + 1) (u - (a + 1)))) e
 
+  pub first_past : (a u : ℕ) → u ≤ a → first_hour p a (u - a) ≡ None
+  first_past a u h = (let e : u - a ≡ 0 = omega arith in ap (first_hour p a) e)
+
   none_here : (a : ℕ) (o : Option ℕ) → cond (p a) (Some a) o ≡ None → (p a ≡ false) × (o ≡ None)
   none_here a o e = ⊎_elim
       (λ k. (let w : cond (p a) (Some a) o ≡ Some a = ap (λ (b : Bool). cond b (Some a) o) k in let z : ◌≡◌ {A = ℕ} 0 1 = cc in absurd (omega (arith, z))))

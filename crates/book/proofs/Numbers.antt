@@ -1,34 +1,19 @@
 -- The numbers of a book's trades stay apart. Assumes nothing.
-use Rattle.std.proofs.Common.{◌≡◌, ℕ, zero, suc, ◌+◌, ◌<◌, ◌≤◌, Bool, true, false, cond, not, ◌≢◌, List, [], ◌∷◌, ◌++◌, length, get_or, set, sym, ap, ◌∙◌, ⊎_elim, arith}
-use Rattle.std.specs.List.{prefix_len, remove}
-use Rattle.std.proofs.lemmas.List.Edits.{length-remove, get_or-remove_below, get_or-remove_above}
-use Rattle.std.proofs.lemmas.List.{get_or-set_same, get_or-set_other, length-set, get_or_push, get_or_append_left, length-append}
-use Rattle.std.proofs.lemmas.Bool.{ltb-false, not-true, eqb-false, cases_eq, cases_lt, cases_Bool}
+use Rattle.std.proofs.Common.{◌≡◌, ℕ, ◌<◌, ◌≤◌, false, not, List, [], ◌∷◌, ◌++◌, length, get_or, sym, ap, ◌∙◌, ⊎_elim, arith}
+use Rattle.std.proofs.lemmas.List.Sums.{prefix_len_passes}
+use Rattle.std.proofs.lemmas.List.{get_or_push, get_or_append_left, length-append}
+use Rattle.std.proofs.lemmas.Bool.{ltb-false, not-true, eqb-false, cases_lt}
 use Rattle.book.specs.declared.trades.Trade.{Trade}
-use Rattle.book.specs.Trades.{no_trade, confirmed, Apart}
+use Rattle.book.specs.Trades.{no_trade, Apart}
 use Rattle.book.specs.Deals.{is_number, index_of, in_book}
 
 abbrev number_at : List Trade → ℕ → ℕ
 number_at rs k = (get_or rs k no_trade).offer.number.0
 
--- what holds of the leading trades holds of each of them
-leading_holds : (p : Trade → Bool) (rs : List Trade) (k : ℕ) → k < prefix_len p rs → p (get_or rs k no_trade) ≡ true
-leading_holds p [] k lt = absurd (omega arith)
-leading_holds p (r ∷ rs) k lt = ⊎_elim
-    (λ (yes : p r ≡ true).
-    let many : prefix_len p (r ∷ rs) ≡ 1 + prefix_len p rs = ap (λ (b : Bool). cond b (1 + prefix_len p rs) 0) yes in
-    let go : (j : ℕ) → j < 1 + prefix_len p rs → p (get_or (r ∷ rs) j no_trade) ≡ true
-    = λ j. elim j as (λ j. j < 1 + prefix_len p rs → p (get_or (r ∷ rs) j no_trade) ≡ true) [ zero ↦ λ h. yes | suc i ↦ λ h. leading_holds p rs i (omega arith) ]
-    in go k (omega (arith, many)))
-    (λ (no : p r ≡ false).
-    let none : prefix_len p (r ∷ rs) ≡ 0 = ap (λ (b : Bool). cond b (1 + prefix_len p rs) 0) no in
-    absurd (omega (arith, none)))
-    (cases_Bool (p r))
-
 not_there : (rs : List Trade) (n k : ℕ) → in_book rs n ≡ false → k < length rs → number_at rs k ≡ n → ⊥
 not_there rs n k e lt =
     let far = ltb-false (index_of rs n) (length rs) e in
-    let p = leading_holds (λ r. not (is_number n r)) rs k (omega arith) in
+    let p = prefix_len_passes (λ r. not (is_number n r)) rs k no_trade (omega arith) in
     eqb-false (number_at rs k) n (not-true (is_number n (get_or rs k no_trade)) p)
 
 module _ (rs : List Trade) (apart : Apart rs) where
@@ -43,26 +28,3 @@ module _ (rs : List Trade) (apart : Apart rs) where
       let last = ap (λ (r : Trade). r.offer.number.0) (get_or_push rs y no_trade k (omega (arith, n, l.1))) in
       not_there rs y.offer.number.0 j new at (sym (left j at) ∙ e ∙ last))
       (cases_lt k (length rs))
-
-  pub apart_confirmed : (i : ℕ) → i < length rs → Apart (set rs i (confirmed (get_or rs i no_trade)))
-  apart_confirmed i lt = λ j k l e.
-      let y = confirmed (get_or rs i no_trade) in
-      let n = length-set rs i y in
-      let same : (m : ℕ) → number_at (set rs i y) m ≡ number_at rs m = λ m. ⊎_elim
-      (λ (q : m ≡ i). ap (λ (x : ℕ). number_at (set rs i y) x) q ∙ ap (λ (r : Trade). r.offer.number.0) (get_or-set_same rs i y no_trade lt) ∙ ap (number_at rs) (sym q))
-      (λ (q : m ≢ i). ap (λ (r : Trade). r.offer.number.0) (get_or-set_other rs i m y no_trade q))
-      (cases_eq m i) in
-      apart j k (l.0, omega (arith, n, l.1)) (sym (same j) ∙ e ∙ same k)
-
-  pub apart_removed : (i : ℕ) → i < length rs → Apart (remove rs i)
-  apart_removed i lt = λ j k l e.
-      let n = length-remove rs i lt in
-      let below : (m : ℕ) → m < i → number_at (remove rs i) m ≡ number_at rs m = λ m h. ap (λ (r : Trade). r.offer.number.0) (get_or-remove_below rs i no_trade m h lt) in
-      let above : (m : ℕ) → i ≤ m → number_at (remove rs i) m ≡ number_at rs (m + 1) = λ m h. ap (λ (r : Trade). r.offer.number.0) (get_or-remove_above rs i no_trade m h lt) in
-      ⊎_elim
-      (λ (a : j < i). ⊎_elim
-      (λ (b : k < i). apart j k (l.0, omega arith) (sym (below j a) ∙ e ∙ below k b))
-      (λ (b : i ≤ k). apart j (k + 1) (omega (arith, l.0), omega (arith, n, l.1)) (sym (below j a) ∙ e ∙ above k b))
-      (cases_lt k i))
-      (λ (a : i ≤ j). apart (j + 1) (k + 1) (omega (arith, l.0), omega (arith, n, l.1)) (sym (above j a) ∙ e ∙ above k (omega (arith, l.0))))
-      (cases_lt j i)

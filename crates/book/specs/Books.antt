@@ -6,7 +6,8 @@
 --                a call of the book b answered r and left c; answer says what it answers over the table below and the
 --                trades, and new what becomes of the trades where it is done
 use Rattle.std.specs.Prelude.{◌≡◌, List, vec_items, Result}
-use Rattle.sheet.specs.Tables.{Place, Table, total_at}
+use Rattle.sheet.specs.declared.places.Place.{Place}
+use Rattle.sheet.specs.Tables.{Table, total_at}
 use Rattle.book.specs.Trades.{over, Balanced}
 use Rattle.book.specs.Deals.{after, NotDone}
 use Rattle.book.specs.declared.kept.Book.{Book}

@@ -5,6 +5,7 @@
 --   index_of rs n        the index among rs of the trade with the number n, their length where there is none
 --   in_book rs n         some trade has the number n
 --   trade_of rs n        that trade
+--   IsFound rs n f       f is that trade, which is there, and its index
 --   first_hour p a n     the first of n hours from hour a on at which p holds
 --   first_of_hours o p   the same over the hours of the offer o
 --   is_blank a           the cell a is blank
@@ -35,11 +36,12 @@
 --   deal_of r            a plain answer among those of a call that may be held back
 --   after r new was      new where the call was done, and else was
 --   NotDone r P          P, where the call was not done
+--   IfHeld r P           P, where the call was held back
 --   offered rs o         the trades rs with the offer o entered
 --   confirmed_in rs n    the trades rs with the trade n confirmed
 --   cancelled_in rs n    the trades rs without the trade n
-use Rattle.std.specs.Prelude.{◌≡◌, ℕ, zero, suc, ◌+◌, ◌-◌, Bool, true, false, cond, not, ◌||◌, List, [], ◌∷◌, ◌++◌, length, Some, None, Ok, Err, Option, Result, ◌==◌, nat_le, nat_lt, slice_index_or, slice_set, refl}
-use Rattle.std.specs.List.{prefix_len, remove}
+use Rattle.std.specs.Prelude.{◌≡◌, ℕ, zero, suc, ◌+◌, ◌-◌, ◌<◌, Bool, true, false, cond, not, ◌||◌, List, [], ◌∷◌, ◌++◌, length, Some, None, Ok, Err, Option, Result, ◌==◌, nat_le, nat_lt, slice_index_or, slice_set, refl}
+use Rattle.std.specs.List.{position_or_len, remove}
 use Rattle.figures.specs.Grounds.{first_of}
 use Rattle.figures.specs.Limits.{products, max_hours}
 use Rattle.figures.specs.declared.grounds.Ground.{Ground}
@@ -53,6 +55,7 @@ use Rattle.book.specs.declared.deals.Deal.{Deal}
 use Rattle.book.specs.declared.deals.Deal.TheVariants.{Done, Held}
 use Rattle.book.specs.declared.faults.BookFault.{BookFault}
 use Rattle.book.specs.declared.faults.BookFault.TheVariants.{Beyond, Figure, Void, Known, Full, NoTrade, NotConfirmable, Blank, Short, Spent}
+use Rattle.book.specs.declared.finds.Found.{Found}
 use Rattle.book.specs.declared.trades.Offer.{Offer}
 use Rattle.book.specs.declared.trades.Trade.{Trade}
 use Rattle.book.specs.declared.trades.TradeState.TheVariants.{Offered, Confirmed}
@@ -73,13 +76,18 @@ abbrev pub is_number : ℕ → Trade → Bool
 is_number n r = r.offer.number.0 == n
 
 abbrev pub index_of : List Trade → ℕ → ℕ
-index_of rs n = prefix_len (λ r. not (is_number n r)) rs
+index_of rs n = position_or_len (is_number n) rs
 
 abbrev pub in_book : List Trade → ℕ → Bool
 in_book rs n = nat_lt (index_of rs n) (length rs)
 
 abbrev pub trade_of : List Trade → ℕ → Trade
 trade_of rs n = slice_index_or rs (index_of rs n) no_trade
+
+pub record IsFound (rs : List Trade) (n : ℕ) (f : Found) : Type 0 where
+  pub index : f.index ≡ index_of rs n
+  pub here : index_of rs n < length rs
+  pub trade : f.trade ≡ trade_of rs n
 
 abbrev pub first_hour : (ℕ → Bool) → ℕ → ℕ → Option ℕ
 first_hour p a zero = None
@@ -189,6 +197,11 @@ NotDone (Ok Done) P = Unit
 NotDone (Ok Held) P = P
 NotDone (Err e) P = P
 
+abbrev pub IfHeld : Result Deal BookFault → Type 0 → Type 0
+IfHeld (Ok Done) P = Unit
+IfHeld (Ok Held) P = P
+IfHeld (Err e) P = Unit
+
 abbrev pub offered : List Trade → Offer → List Trade
 offered rs o = rs ++ record { offer = o; state = Offered } ∷ []
 
@@ -200,7 +213,7 @@ cancelled_in rs n = remove rs (index_of rs n)
 
 -- two seats that hold 10 kW each, but seat 0 holds 6 in hour 3, and seat 1's cell is blank from hour 5 on
 abbrev cells : Table
-cells = framed 2 1 (λ s w. cond (s == 0) (Some (cond (w.hour == 3) 6 10)) (cond (nat_lt w.hour 5) (Some 10) None))
+cells = framed 2 1 (λ s w. cond (s == 0) (Some (cond (w.hour.0 == 3) 6 10)) (cond (nat_lt w.hour.0 5) (Some 10) None))
 
 -- seat 0 offers seat 1 k kW of product 0 in zone 0, from hour 2 to hour l
 abbrev sale : ℕ → ℕ → Offer

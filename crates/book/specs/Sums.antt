@@ -3,26 +3,15 @@ use Rattle.std.specs.Prelude.{◌≡◌, ℕ, zero, suc, ◌+◌, ◌<◌, Bool,
 use Rattle.std.proofs.Common.{sym, ap, ◌∙◌, arith, lt-ltb}
 use Rattle.std.proofs.lemmas.List.Sums.{sum_by-cons}
 use Rattle.std.proofs.lemmas.Bool.Decides.{nat_tests}
-use Rattle.sheet.specs.Tables.{Place, Table}
+use Rattle.figures.specs.SeatSums.{sum_to, sum_to_suc, sum_to_plus, sum_to_same}
+use Rattle.sheet.specs.declared.places.Place.{Place}
+use Rattle.sheet.specs.Tables.{Table}
 use Rattle.book.specs.declared.trades.Trade.{Trade}
 use Rattle.book.specs.Trades.{no_trade, stands, bought_at, sold_at, Balanced}
 
--- f added up over the seats 0 to n - 1
-abbrev pub sum_to : (ℕ → ℕ) → ℕ → ℕ
-sum_to f zero = 0
-sum_to f (suc n) = sum_to f n + f n
-
-to_ext : (f k : ℕ → ℕ) → ((s : ℕ) → f s ≡ k s) → (n : ℕ) → sum_to f n ≡ sum_to k n
-to_ext f k e zero = refl
-to_ext f k e (suc n) = omega (arith, to_ext f k e n, e n)
-
-to_plus : (f k : ℕ → ℕ) (n : ℕ) → sum_to (λ s. f s + k s) n ≡ sum_to f n + sum_to k n
-to_plus f k zero = refl
-to_plus f k (suc n) = omega (arith, to_plus f k n)
-
 to_zero : (n : ℕ) → ◌≡◌ {A = ℕ} (sum_to (λ s. 0) n) 0
 to_zero zero = refl
-to_zero (suc n) = omega (arith, to_zero n)
+to_zero (suc n) = omega (arith, to_zero n, sum_to_suc (λ _. 0) n)
 
 -- a trade counts for one seat alone
 one_more : (b : Bool) (a k n : ℕ) → cond (b && nat_lt a n) k 0 + cond (b && a == n) k 0 ≡ cond (b && nat_lt a (suc n)) k 0
@@ -35,7 +24,7 @@ none_yet false a k = refl
 
 to_up : (b : Bool) (a k n : ℕ) → sum_to (λ s. cond (b && a == s) k 0) n ≡ cond (b && nat_lt a n) k 0
 to_up b a k zero = none_yet b a k
-to_up b a k (suc n) = omega (arith, to_up b a k n, one_more b a k n)
+to_up b a k (suc n) = omega (arith, to_up b a k n, one_more b a k n, sum_to_suc (λ s. cond (b && a == s) k 0) n)
 
 and_true : (b : Bool) → (b && true) ≡ b
 and_true true = refl
@@ -56,8 +45,8 @@ module _ (who : Trade → ℕ) (w : Place) (n : ℕ) where
   each_once (r ∷ rs) p =
       let rest = each_once rs (λ k l. p (suc k) (omega arith)) in
       let here : sum_to (λ s. part s r) n ≡ whole r = to_one (stands w r) (who r) r.offer.kw.0 n (p 0 (omega arith)) in
-      let split : sum_to (λ s. sum_by (part s) (r ∷ rs)) n ≡ sum_to (λ s. part s r + sum_by (part s) rs) n = to_ext (λ s. sum_by (part s) (r ∷ rs)) (λ s. part s r + sum_by (part s) rs) (λ s. sum_by-cons (part s) r rs) n in
-      omega (arith, split, to_plus (λ s. part s r) (λ s. sum_by (part s) rs) n, here, rest, sum_by-cons whole r rs)
+      let split : sum_to (λ s. sum_by (part s) (r ∷ rs)) n ≡ sum_to (λ s. part s r + sum_by (part s) rs) n = sum_to_same (λ s. sum_by (part s) (r ∷ rs)) (λ s. part s r + sum_by (part s) rs) n (λ s l. sum_by-cons (part s) r rs) in
+      omega (arith, split, sum_to_plus (λ s. part s r) (λ s. sum_by (part s) rs) n, here, rest, sum_by-cons whole r rs)
 
 pub cancel_out : (t : Table) (rs : List Trade) (w : Place) → Balanced t rs → sum_to (λ s. sold_at s w rs) t.seats ≡ sum_to (λ s. bought_at s w rs) t.seats
 cancel_out t rs w b = each_once (λ r. r.offer.seller.0) w t.seats rs (λ k l. (b.parties k l).seller) ∙ sym (each_once (λ r. r.offer.buyer.0) w t.seats rs (λ k l. (b.parties k l).buyer))

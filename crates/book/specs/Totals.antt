@@ -1,10 +1,12 @@
 -- A balanced book's totals are those of the sheet below, and its table is as bounded. Assumes nothing.
 use Rattle.std.specs.Prelude.{◌≡◌, ℕ, zero, suc, ◌+◌, ◌≤◌, Bool, true, false, cond, ◌&&◌, List, Some, None, Option, refl}
 use Rattle.std.proofs.Common.{sym, ap, ◌∙◌, arith}
-use Rattle.sheet.specs.Tables.{Place, Table, plus, added_up, filled, filled_up, total_at, filled_at, Bounded}
+use Rattle.sheet.specs.declared.places.Place.{Place}
+use Rattle.sheet.specs.Tables.{Table, plus, added_up, filled, filled_up, total_at, filled_at, Bounded}
 use Rattle.book.specs.declared.trades.Trade.{Trade}
 use Rattle.book.specs.Trades.{bought_at, sold_at, shifted, over, Balanced}
-use Rattle.book.specs.Sums.{sum_to, cancel_out}
+use Rattle.figures.specs.SeatSums.{sum_to, sum_to_suc}
+use Rattle.book.specs.Sums.{cancel_out}
 
 abbrev is_filled : Option ℕ → Bool
 is_filled None = false
@@ -40,7 +42,7 @@ module _ (t : Table) (rs : List Trade) (w : Place) where
 
   up : Balanced t rs → (n : ℕ) → filled_up new n + sum_to (λ s. sold_at s w rs) n ≡ filled_up old n + sum_to (λ s. bought_at s w rs) n
   up b zero = refl
-  up b (suc n) = omega (arith, up b n, shifted_filled (bought_at n w rs) (sold_at n w rs) (old n) (b.covered n w) (b.untouched n w))
+  up b (suc n) = omega (arith, up b n, sum_to_suc (λ s. sold_at s w rs) n, sum_to_suc (λ s. bought_at s w rs) n, shifted_filled (bought_at n w rs) (sold_at n w rs) (old n) (b.covered n w) (b.untouched n w))
 
   same_blank : (n : ℕ) → all_filled new n ≡ all_filled old n
   same_blank zero = refl

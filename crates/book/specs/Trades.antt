@@ -23,7 +23,8 @@
 use Rattle.std.specs.Prelude.{◌≡◌, ℕ, ◌+◌, ◌-◌, ◌<◌, ◌≤◌, Bool, true, false, cond, ◌&&◌, List, [], ◌∷◌, length, Some, None, Ok, Err, sum_by, Option, Result, ◌==◌, ◌≢◌, nat_le, slice_index_or, refl}
 use Rattle.figures.specs.Limits.{max_hours}
 use Rattle.sheet.specs.Limits.{max_kw}
-use Rattle.sheet.specs.Tables.{Place, Table, at, framed, filled}
+use Rattle.sheet.specs.declared.places.Place.{Place}
+use Rattle.sheet.specs.Tables.{Table, at, framed, filled}
 use Rattle.book.specs.declared.faults.BookFault.{BookFault}
 use Rattle.book.specs.declared.faults.BookFault.TheVariants.{NotConfirmable}
 use Rattle.book.specs.declared.trades.Offer.{Offer}
@@ -59,7 +60,7 @@ abbrev pub covers : Offer → ℕ → Bool
 covers o h = nat_le o.first.0 h && nat_le h o.last.0
 
 abbrev pub reaches : Offer → Place → Bool
-reaches o w = o.zone.0 == w.zone && (o.product.0 == w.product && covers o w.hour)
+reaches o w = o.zone.0 == w.zone.0 && (o.product.0 == w.product.0 && covers o w.hour.0)
 
 abbrev pub stands : Place → Trade → Bool
 stands w r = is_confirmed r.state && reaches r.offer w

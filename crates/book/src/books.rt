@@ -1,6 +1,5 @@
 ghost use Rattle.std.specs.Prelude.{◌≡◌, ◌*◌, ◌≤◌, []};
 ghost use Rattle.sheet.specs.Limits.{max_kw};
-ghost use Rattle.sheet.specs.Tables.{at};
 ghost use Rattle.book.specs.Limits.{max_trades};
 ghost use Rattle.book.specs.Trades.{bought_at, sold_at};
 ghost use Rattle.book.specs.Books.{table_of, Lawful, AddsUp};
@@ -8,19 +7,19 @@ ghost use Rattle.book.specs.Totals.{over_bounded};
 
 use crate::kept::{Book, Pages};
 use crate::trades::{Moved, Trade};
-use figures::{Hour, Kw, Product, Seat, Zone};
-use sheet::Sheet;
+use figures::{Kw, Seat};
+use sheet::{Place, Sheet};
 
 impl<S> Book<S> {
-    // What the standing trades bring to a seat and take from it at one zone, product and hour.
-    fn moved(&self, seat: Seat, zone: Zone, product: Product, hour: Hour) -> Moved
-        ensures bought { result.bought ≡ bought_at seat.0 (at zone.0 product.0 hour.0) self.now.trades.items }
-        ensures sold { result.sold ≡ sold_at seat.0 (at zone.0 product.0 hour.0) self.now.trades.items }
+    // What the standing trades bring to a seat and take from it at one place.
+    fn moved(&self, seat: Seat, place: Place) -> Moved
+        ensures bought { result.bought ≡ bought_at seat.0 place self.now.trades.items }
+        ensures sold { result.sold ≡ sold_at seat.0 place self.now.trades.items }
         ensures most { result.bought ≤ max_trades * max_kw }
     {
         let mut all = Moved { bought: 0, sold: 0 };
         for trade in self.trades() {
-            let one = trade.moved(seat, zone, product, hour);
+            let one = trade.moved(seat, place);
             all.bought += one.bought;
             all.sold += one.sold;
         }
@@ -63,17 +62,13 @@ impl<S: Sheet> Sheet for Book<S> {
         self.below.zones()
     }
 
-    fn cell(&self, seat: Seat, zone: Zone, product: Product, hour: Hour) -> Option<Kw> {
-        match self.below.cell(seat, zone, product, hour) {
-            None => None,
-            Some(kw) => {
-                let moved = self.moved(seat, zone, product, hour);
-                Some(Kw(kw.0.saturating_add(moved.bought).saturating_sub(moved.sold)))
-            }
-        }
+    fn cell(&self, seat: Seat, place: Place) -> Option<Kw> {
+        let kw = self.below.cell(seat, place)?;
+        let moved = self.moved(seat, place);
+        Some(Kw(kw.0.saturating_add(moved.bought).saturating_sub(moved.sold)))
     }
 
-    fn total(&self, zone: Zone, product: Product, hour: Hour) -> Option<Kw> {
-        self.below.total(zone, product, hour)
+    fn total(&self, place: Place) -> Option<Kw> {
+        self.below.total(place)
     }
 }

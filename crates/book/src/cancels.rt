@@ -1,8 +1,7 @@
-ghost use Rattle.std.specs.Prelude.{◌≡◌, ◌<◌, length};
+ghost use Rattle.std.specs.Prelude.{◌≡◌, ◌<◌, true, length};
 ghost use Rattle.std.specs.List.{remove};
 ghost use Rattle.figures.specs.Grounds.{Judged};
-ghost use Rattle.figures.specs.Limits.{max_hours};
-ghost use Rattle.book.specs.Deals.{undo_grounds, cancel_answer, cancel_answer_from, cancelled_in, deal_of};
+ghost use Rattle.book.specs.Deals.{undo_grounds, cancel_answer, cancel_answer_from, cancelled_in, begins_before, trade_of, deal_of, IfHeld};
 ghost use Rattle.book.specs.Books.{Lawful, Called, table_of};
 
 use crate::deals::Deal;
@@ -26,7 +25,6 @@ impl<S> Book<S> {
 impl<S: Sheet> Book<S> {
     // Whether the trade may leave the book: what a confirmed one brought, its buyer still holds.
     fn spares(&self, trade: &Trade) -> Result<(), BookFault>
-        requires hours { trade.now.offer.last.0 < max_hours }
         ensures { Lawful S.Sheet.table S.Sheet.lawful self.now → Judged (undo_grounds (table_of S.Sheet.table self.now) trade.now) result }
     {
         let mut leaving = *trade;
@@ -43,28 +41,21 @@ impl<S: Sheet> Book<S> {
     pub fn cancel(&mut self, number: TradeNumber) -> Result<(), BookFault>
         ensures { Called S.Sheet.table S.Sheet.lawful (cancel_answer number.0) (λ rs. cancelled_in rs number.0) self.old (deal_of result) self.new }
     {
-        let Some(index) = self.index_of(number) else {
-            return Err(BookFault::NoTrade);
-        };
-        let trade = self.trade_at(index);
-        self.spares(&trade)?;
-        self.strike(index);
+        self.cancel_from(number, Hour(0))?;
         Ok(())
     }
 
     // The same for a layer above, which holds back a trade that begins before the hour `from`.
     pub fn cancel_from(&mut self, number: TradeNumber, from: Hour) -> Result<Deal, BookFault>
-        ensures { Called S.Sheet.table S.Sheet.lawful (cancel_answer_from from.0 number.0) (λ rs. cancelled_in rs number.0) self.old result self.new }
+        ensures call { Called S.Sheet.table S.Sheet.lawful (cancel_answer_from from.0 number.0) (λ rs. cancelled_in rs number.0) self.old result self.new }
+        ensures held { IfHeld result (begins_before (trade_of self.old.trades.items number.0).offer from.0 ≡ true) }
     {
-        let Some(index) = self.index_of(number) else {
-            return Err(BookFault::NoTrade);
-        };
-        let trade = self.trade_at(index);
-        if trade.offer.first.0 < from.0 {
+        let found = self.find(number)?;
+        if found.trade.offer.first < from {
             return Ok(Deal::Held);
         }
-        self.spares(&trade)?;
-        self.strike(index);
+        self.spares(&found.trade)?;
+        self.strike(found.index);
         Ok(Deal::Done)
     }
 }

@@ -1,20 +1,21 @@
-ghost use Rattle.std.specs.Prelude.{◌≡◌, ◌<◌, length, IfOk, slice_index_or, slice_set};
+ghost use Rattle.std.specs.Prelude.{◌≡◌, ◌<◌, true, length, IfOk, slice_index_or, slice_set};
 ghost use Rattle.figures.specs.Grounds.{Judged};
 ghost use Rattle.book.specs.declared.trades.TradeEvent.TheVariants.{Confirm};
 ghost use Rattle.book.specs.Trades.{no_trade, confirmed, turn_of};
 ghost use Rattle.book.specs.declared.trades.TradeState.TheVariants.{Offered};
-ghost use Rattle.book.specs.Deals.{index_of, find_grounds, confirm_answer, confirm_answer_from, confirmed_in, deal_of};
+ghost use Rattle.book.specs.Deals.{IsFound, find_grounds, confirm_answer, confirm_answer_from, confirmed_in, begins_before, trade_of, deal_of, IfHeld};
 ghost use Rattle.book.specs.Books.{Lawful, Called};
 
 use crate::deals::Deal;
 use crate::faults::BookFault;
+use crate::finds::Found;
 use crate::kept::Book;
 use crate::trades::{TradeEvent, Turn};
 use figures::{Hour, Seat, TradeNumber};
 use sheet::Sheet;
 
 impl<S> Book<S> {
-    // Lets the confirm happen to a trade, which then stands.
+    // Lets the confirm happen to a trade, which then stands. An index, since no struct can hold the place and lend the book too.
     fn stand(&mut self, index: usize) -> Result<Turn, BookFault>
         requires here { index < length self.old.trades.items }
         ensures turn { result ≡ turn_of (slice_index_or self.old.trades.items index no_trade).state Confirm }
@@ -26,33 +27,28 @@ impl<S> Book<S> {
 }
 
 impl<S: Sheet> Book<S> {
-    // The index of the trade, where the seat may confirm it.
-    fn to_confirm(&self, number: TradeNumber, seat: Seat) -> Result<usize, BookFault>
+    // The trade, where the seat may confirm it.
+    fn to_confirm(&self, number: TradeNumber, seat: Seat) -> Result<Found, BookFault>
         ensures judged { Lawful S.Sheet.table S.Sheet.lawful self.now → Judged (find_grounds (S.Sheet.table self.now.below) self.now.trades.items number.0 seat.0) result }
-        ensures found { IfOk result (λ i. (i ≡ index_of self.now.trades.items number.0) × (i < length self.now.trades.items) × ((slice_index_or self.now.trades.items i no_trade).state ≡ Offered)) }
+        ensures found { IfOk result (λ f. IsFound self.now.trades.items number.0 f × (f.trade.state ≡ Offered)) }
     {
         if seat.0 >= self.below.seats() {
             return Err(BookFault::Beyond);
         }
-        let Some(index) = self.index_of(number) else {
-            return Err(BookFault::NoTrade);
-        };
-        let mut trade = self.trade_at(index);
-        if trade.offer.buyer.0 != seat.0 {
+        let found = self.find(number)?;
+        if found.trade.offer.buyer != seat {
             return Err(BookFault::NotConfirmable);
         }
-        trade.turn(TradeEvent::Confirm)?;
-        Ok(index)
+        let mut standing = found.trade;
+        standing.turn(TradeEvent::Confirm)?;
+        Ok(found)
     }
 
     // The buyer confirms an offered trade, which then stands.
     pub fn confirm(&mut self, number: TradeNumber, seat: Seat) -> Result<(), BookFault>
         ensures { Called S.Sheet.table S.Sheet.lawful (confirm_answer number.0 seat.0) (λ rs. confirmed_in rs number.0) self.old (deal_of result) self.new }
     {
-        let index = self.to_confirm(number, seat)?;
-        let offer = self.trade_at(index).offer;
-        self.check_cover(&offer)?;
-        self.stand(index)?;
+        self.confirm_from(number, seat, Hour(0))?;
         Ok(())
     }
 
@@ -63,15 +59,15 @@ impl<S: Sheet> Book<S> {
         seat: Seat,
         from: Hour,
     ) -> Result<Deal, BookFault>
-        ensures { Called S.Sheet.table S.Sheet.lawful (confirm_answer_from from.0 number.0 seat.0) (λ rs. confirmed_in rs number.0) self.old result self.new }
+        ensures call { Called S.Sheet.table S.Sheet.lawful (confirm_answer_from from.0 number.0 seat.0) (λ rs. confirmed_in rs number.0) self.old result self.new }
+        ensures held { IfHeld result (begins_before (trade_of self.old.trades.items number.0).offer from.0 ≡ true) }
     {
-        let index = self.to_confirm(number, seat)?;
-        let offer = self.trade_at(index).offer;
-        if offer.first.0 < from.0 {
+        let found = self.to_confirm(number, seat)?;
+        if found.trade.offer.first < from {
             return Ok(Deal::Held);
         }
-        self.check_cover(&offer)?;
-        self.stand(index)?;
+        self.check_cover(&found.trade.offer)?;
+        self.stand(found.index)?;
         Ok(Deal::Done)
     }
 }

@@ -28,11 +28,11 @@ pub enum BookFault {
     Spent(Hour),
 }
 
-impl BookFault {
-    pub fn ground(self) -> Ground
-        ensures { result ≡ ground_of self }
-    {
-        let (number, place) = match self {
+impl From<BookFault> for Ground {
+    ghost from_gives = { λ e g. g ≡ ground_of e };
+
+    fn from(fault: BookFault) -> Ground {
+        let (number, place) = match fault {
             BookFault::Beyond => (6, 0),
             BookFault::Figure => (7, 0),
             BookFault::Void => (9, 0),

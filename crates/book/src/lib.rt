@@ -7,6 +7,7 @@ pub mod confirms;
 pub mod cover;
 pub mod deals;
 pub mod faults;
+pub mod finds;
 pub mod kept;
 pub mod offers;
 pub mod trades;

@@ -1,16 +1,16 @@
-ghost use Rattle.std.specs.Prelude.{◌≡◌, ◌<◌, true, false, length, vec_len, MatchOption, OnOk, slice_index_or};
+ghost use Rattle.std.specs.Prelude.{◌≡◌, ◌<◌, true, false, length, vec_len, OnOk, slice_index_or};
 ghost use Rattle.figures.specs.Grounds.{Judged};
 ghost use Rattle.figures.specs.Limits.{max_hours};
 ghost use Rattle.book.specs.Limits.{max_trades};
-ghost use Rattle.book.specs.Trades.{no_trade, Fit};
-ghost use Rattle.book.specs.Deals.{in_book, index_of, beyond, misfigured, void, offer_grounds, offer_answer, offer_answer_from, offered, deal_of};
+ghost use Rattle.book.specs.Trades.{Fit};
+ghost use Rattle.book.specs.Deals.{in_book, beyond, misfigured, void, offer_grounds, begins_before, offer_answer, offer_answer_from, offered, deal_of, IfHeld};
 ghost use Rattle.book.specs.Books.{Lawful, Called};
 
 use crate::deals::Deal;
 use crate::faults::BookFault;
 use crate::kept::{Book, MAX_TRADES};
 use crate::trades::{Offer, Trade, TradeState};
-use figures::{Hour, MAX_HOURS, PRODUCTS, TradeNumber};
+use figures::{Hour, MAX_HOURS, PRODUCTS};
 use sheet::{MAX_KW, Sheet};
 
 impl Offer {
@@ -18,39 +18,18 @@ impl Offer {
     fn is_misfigured(&self) -> bool
         ensures { result ≡ misfigured self.now }
     {
-        self.kw.0 == 0 || self.kw.0 > MAX_KW
+        self.kw.0 == 0 || self.kw > MAX_KW
     }
 
     // Whether it has one seat on both sides, or its first hour after its last.
     fn is_void(&self) -> bool
         ensures { result ≡ void self.now }
     {
-        self.seller.0 == self.buyer.0 || self.first.0 > self.last.0
+        self.seller == self.buyer || self.first > self.last
     }
 }
 
 impl<S> Book<S> {
-    // The index of the trade of that number.
-    pub(crate) fn index_of(&self, number: TradeNumber) -> Option<usize>
-        ensures { MatchOption result (in_book self.now.trades.items number.0 ≡ false) (λ i. (i ≡ index_of self.now.trades.items number.0) × (in_book self.now.trades.items number.0 ≡ true)) }
-    {
-        for index in 0..self.trades.len() {
-            if self.trades[index].offer.number.0 == number.0 {
-                return Some(index);
-            }
-        }
-        None
-    }
-
-    // The trade of that index.
-    pub(crate) fn trade_at(&self, index: usize) -> Trade
-        requires here { index < length self.now.trades.items }
-        ensures is { result ≡ slice_index_or self.now.trades.items index no_trade }
-        ensures fit { Fit result.offer }
-    {
-        self.trades[index]
-    }
-
     // Writes the offer behind the other trades.
     fn enter(&mut self, offer: Offer)
         requires fit { Fit offer }
@@ -96,7 +75,7 @@ impl<S: Sheet> Book<S> {
         if offer.is_void() {
             return Err(BookFault::Void);
         }
-        if let Some(_) = self.index_of(offer.number) {
+        if self.index_of(offer.number).is_some() {
             return Err(BookFault::Known);
         }
         if self.trades.len() >= MAX_TRADES {
@@ -109,17 +88,17 @@ impl<S: Sheet> Book<S> {
     pub fn offer(&mut self, offer: Offer) -> Result<(), BookFault>
         ensures { Called S.Sheet.table S.Sheet.lawful (offer_answer offer) (λ rs. offered rs offer) self.old (deal_of result) self.new }
     {
-        self.admits(&offer)?;
-        self.enter(offer);
+        self.offer_from(offer, Hour(0))?;
         Ok(())
     }
 
     // The same for a layer above, which holds back a trade that begins before the hour `from`.
     pub fn offer_from(&mut self, offer: Offer, from: Hour) -> Result<Deal, BookFault>
-        ensures { Called S.Sheet.table S.Sheet.lawful (offer_answer_from from.0 offer) (λ rs. offered rs offer) self.old result self.new }
+        ensures call { Called S.Sheet.table S.Sheet.lawful (offer_answer_from from.0 offer) (λ rs. offered rs offer) self.old result self.new }
+        ensures held { IfHeld result (begins_before offer from.0 ≡ true) }
     {
         self.admits(&offer)?;
-        if offer.first.0 < from.0 {
+        if offer.first < from {
             return Ok(Deal::Held);
         }
         self.enter(offer);

@@ -1,9 +1,9 @@
 ghost use Rattle.std.specs.Prelude.{◌≡◌, ◌≤◌};
-ghost use Rattle.sheet.specs.Tables.{at};
 ghost use Rattle.book.specs.Trades.{turn_of, after_turn, stands, buys, sells};
 
 use crate::faults::BookFault;
 use figures::{Hour, Kw, Product, Seat, TradeNumber, Zone};
+use sheet::Place;
 
 // What a seller offers a buyer: kilowatts of one zone and product, from the first hour to the last, both included.
 #[derive(Clone, Copy)]
@@ -19,7 +19,7 @@ pub struct Offer {
 }
 
 // A trade is offered, then confirmed; it stands while it is confirmed.
-#[derive(Clone, Copy)]
+#[derive(Clone, Copy, PartialEq, Eq, Debug)]
 pub enum TradeState {
     Offered,
     Confirmed,
@@ -74,37 +74,33 @@ impl Trade {
         }
     }
 
-    // Whether it is confirmed and reaches that zone, product and hour.
-    fn stands_at(&self, zone: Zone, product: Product, hour: Hour) -> bool
-        ensures { result ≡ stands (at zone.0 product.0 hour.0) self.now }
+    // Whether it is confirmed and reaches that place.
+    fn stands_at(&self, place: Place) -> bool
+        ensures { result ≡ stands place self.now }
     {
         let offer = self.offer;
-        match self.state {
-            TradeState::Offered => false,
-            TradeState::Confirmed => {
-                offer.zone.0 == zone.0
-                    && offer.product.0 == product.0
-                    && offer.first.0 <= hour.0
-                    && hour.0 <= offer.last.0
-            }
-        }
+        self.state == TradeState::Confirmed
+            && offer.zone == place.zone
+            && offer.product == place.product
+            && offer.first <= place.hour
+            && place.hour <= offer.last
     }
 
     // What it moves for a seat there.
-    pub(crate) fn moved(&self, seat: Seat, zone: Zone, product: Product, hour: Hour) -> Moved
-        ensures bought { result.bought ≡ buys seat.0 (at zone.0 product.0 hour.0) self.now }
-        ensures sold { result.sold ≡ sells seat.0 (at zone.0 product.0 hour.0) self.now }
+    pub(crate) fn moved(&self, seat: Seat, place: Place) -> Moved
+        ensures bought { result.bought ≡ buys seat.0 place self.now }
+        ensures sold { result.sold ≡ sells seat.0 place self.now }
         ensures most { (result.bought ≤ self.now.offer.kw.0) × (result.sold ≤ self.now.offer.kw.0) }
     {
         let offer = self.offer;
-        let stands = self.stands_at(zone, product, hour);
+        let stands = self.stands_at(place);
         Moved {
-            bought: if stands && offer.buyer.0 == seat.0 {
+            bought: if stands && offer.buyer == seat {
                 offer.kw.0
             } else {
                 0
             },
-            sold: if stands && offer.seller.0 == seat.0 {
+            sold: if stands && offer.seller == seat {
                 offer.kw.0
             } else {
                 0

@@ -1,19 +1,10 @@
 -- What the grounds of a division test, as facts.
-use Rattle.std.proofs.Common.{◌≡◌, ℕ, zero, suc, ◌<◌, ◌≤◌, true, false, List, [], ◌∷◌, length, get_or, ℤ, nat_abs, None, refl, arith}
+use Rattle.std.proofs.Common.{◌≡◌, ℕ, zero, suc, ◌<◌, ◌≤◌, false, List, [], ◌∷◌, length, get_or, ℤ, nat_abs, None, arith}
 use Rattle.std.proofs.lemmas.Bool.Decides.{nat_tests}
-use Rattle.std.proofs.lemmas.Bool.{or_parts, or_from, or_left, or_right, ltb-false, lt-ltb, le-ltb}
+use Rattle.std.proofs.lemmas.Bool.{or_parts, ltb-false}
 use Rattle.figures.specs.Grounds.{first_of}
 use Rattle.division.specs.Limits.{max_load}
 use Rattle.division.specs.Rules.{heavy, rule_grounds, Fair}
-
-pub light_heavy : (ls : List ℕ) → ((s : ℕ) → s < length ls → get_or ls s 0 ≤ max_load) → heavy ls ≡ false
-light_heavy [] h = refl
-light_heavy (l ∷ ls) h = or_from _ _ (le-ltb max_load l (h 0 (omega arith))) (light_heavy ls (λ s lt. h (suc s) (omega arith)))
-
-pub heavy_at : (ls : List ℕ) (s : ℕ) → s < length ls → max_load < get_or ls s 0 → heavy ls ≡ true
-heavy_at [] s lt h = absurd (omega arith)
-heavy_at (l ∷ ls) zero lt h = or_left _ _ (lt-ltb max_load l h)
-heavy_at (l ∷ ls) (suc s) lt h = or_right _ _ (heavy_at ls s (omega arith) h)
 
 pub heavy_light : (ls : List ℕ) → heavy ls ≡ false → (s : ℕ) → s < length ls → get_or ls s 0 ≤ max_load
 heavy_light [] h s lt = absurd (omega arith)

@@ -5,7 +5,8 @@ use Rattle.std.proofs.lemmas.List.Sums.{sum_by-take-le}
 use Rattle.std.proofs.lemmas.Nat.{mul-le}
 use Rattle.figures.specs.declared.units.Load.{Load}
 use Rattle.division.specs.Columns.{tenths}
-use Rattle.division.specs.Limits.{max_total, max_seats, max_load}
+use Rattle.figures.specs.Limits.{max_seats}
+use Rattle.division.specs.Limits.{max_total, max_load}
 use Rattle.division.specs.Rules.{Fair}
 use Rattle.division.proofs.Figures.{none, length-tenths, tenths-at}
 

@@ -1,8 +1,8 @@
 -- The loads of a slice and their figures, and a share column, place by place.
-use Rattle.std.proofs.Common.{◌≡◌, ℕ, ◌+◌, ◌-◌, ◌<◌, ◌≤◌, List, [], ◌∷◌, ◌++◌, map, length, get_or, take, drop, ℤ, pos, ◌≤ℤ◌, sum, sym, refl, ap, ◌∙◌, arith}
+use Rattle.std.proofs.Common.{◌≡◌, ℕ, ◌+◌, ◌-◌, ◌<◌, List, ◌++◌, map, length, get_or, take, drop, ℤ, pos, ◌≤ℤ◌, sum, sym, ap, ◌∙◌, arith}
 use mathlib.Core.List.{map-map}
 use Rattle.std.specs.List.{range_with_len}
-use Rattle.std.proofs.lemmas.List.{length-map, get_or-map, length-take-le, get_or-append_right, get_or-drop, take_all, drop_all, append-nil}
+use Rattle.std.proofs.lemmas.List.{length-map, get_or-map, length-take-le, get_or-append_right, get_or-drop}
 use Rattle.std.proofs.lemmas.Int.{ints}
 use Rattle.std.proofs.lemmas.List.Sums.{sum_by_more}
 use Rattle.std.proofs.lemmas.List.FromFn.{fill_by_all}
@@ -55,14 +55,3 @@ kept_at f xs ys i lt e =
     ap (λ (zs : List Cents). get_or zs i nothing) e
     ∙ (get_or-append_right (map f (take i xs)) (drop i xs) i i nothing n (omega arith)
     ∙ (get_or-drop i xs (i - i) nothing ∙ ap (λ (k : ℕ). get_or xs k nothing) (let q : i + (i - i) ≡ i = omega arith in q)))
-
--- and at its end all is written
-pub all_written : (f : Cents → Cents) (xs ys : List Cents) (i : ℕ) → length xs ≤ i → ys ≡ map f (take i xs) ++ drop i xs → ys ≡ map f xs
-all_written f xs ys i le e = e ∙ (ap (λ (zs : List Cents). map f zs ++ drop i xs) (take_all i xs le) ∙ (ap (λ (zs : List Cents). map f xs ++ zs) (drop_all i xs le) ∙ append-nil (map f xs)))
-
--- two columns of one length that hold one value throughout
-pub same_constant : {X Y Z : Type 0} (v : Z) (xs : List X) (ys : List Y) → length xs ≡ length ys → map (λ _. v) xs ≡ map (λ _. v) ys
-same_constant v [] [] e = refl
-same_constant v [] (y ∷ ys) e = absurd (omega arith)
-same_constant v (x ∷ xs) [] e = absurd (omega arith)
-same_constant v (x ∷ xs) (y ∷ ys) e = ap (λ (zs : List _). v ∷ zs) (same_constant v xs ys (omega arith))

@@ -8,7 +8,7 @@ use Rattle.std.proofs.lemmas.List.Sums.{sum_by_more}
 use Rattle.std.proofs.lemmas.Nat.{le-div, mul-le}
 use Rattle.division.specs.Rules.{Fair, Lawful}
 use Rattle.division.specs.Cut.{up_to, cut_at, cut_of}
-use Rattle.division.specs.SeatSums.{sum_to, sum_to_suc}
+use Rattle.figures.specs.SeatSums.{sum_to, sum_to_suc}
 
 div_mono : (x y k : ℕ) → 0 < k → x ≤ y → x / k ≤ y / k
 div_mono x y k p h = le-div (x / k) y k p (let d = div-mul-le_self x k in omega arith)

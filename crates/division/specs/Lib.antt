@@ -4,6 +4,5 @@ pub mod Rules
 pub mod Cut
 pub mod Remainder
 pub mod Cutting
-pub mod SeatSums
 pub mod Remaining
 pub mod Ranks

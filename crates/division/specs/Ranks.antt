@@ -4,7 +4,7 @@ use Rattle.std.proofs.Common.{sym, ap, ◌∙◌, inl, inr, arith}
 use Rattle.std.specs.List.{range_with_len}
 use Rattle.std.proofs.lemmas.List.Sums.{sum_by-cons, count_by-le-length}
 use Rattle.std.proofs.lemmas.Bool.{lt-ltb, le-ltb, cases_lt, cases_order}
-use Rattle.division.specs.SeatSums.{bit}
+use Rattle.figures.specs.SeatSums.{bit}
 
 -- z is among xs
 abbrev pub Among : ℕ → List ℕ → Type 0

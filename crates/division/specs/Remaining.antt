@@ -12,7 +12,7 @@ use Rattle.figures.specs.Rounding.{apart}
 use Rattle.division.specs.Rules.{Fair, Lawful}
 use Rattle.division.specs.Remainder.{floor_at, rest_at, rests_of, left_over, stands, ahead, extra_at, remainder_at, remainder_of, LargestRemainders}
 use Rattle.division.specs.Ranks.{above, above_falls, ranked, different_made}
-use Rattle.division.specs.SeatSums.{sum_to, bit, sum_to_suc, sum_to_plus, sum_to-le, sum_to_same, sum_to_times, sum_to_one, count_places}
+use Rattle.figures.specs.SeatSums.{sum_to, bit, sum_to_suc, sum_to_plus, sum_to-le, sum_to_same, sum_to_times, sum_to_one, count_places}
 
 -- the loads of the first n seats, added by place
 sum_places : (t : ℕ) (ls : List ℕ) (n : ℕ) → n ≤ length ls → sum_to (λ s. t * slice_index ls s) n ≡ t * sum (take n ls)

@@ -18,20 +18,21 @@
 --   Balanced z ls zs       signed shares keep the law
 --   SignedDivided f z ls was r out
 --                          the same of a division of the signed total z by a rule that means f; the shares keep the law
-use Rattle.std.specs.Prelude.{◌≡◌, ℕ, zero, suc, ◌*◌, ◌<◌, ◌≤◌, Bool, false, not, ◌&&◌, ◌||◌, List, [], ◌∷◌, map, length, ℤ, pos, negsuc, ◌+ℤ◌, ◌-ℤ◌, ◌*ℤ◌, neg_ℤ, IfOk, Some, None, Ok, Err, fold, sum, Result, ◌==◌, int_lt, nat_lt, slice_index, slice_index_or, unsigned_abs, refl}
+use Rattle.std.specs.Prelude.{◌≡◌, ℕ, zero, suc, ◌*◌, ◌<◌, ◌≤◌, Bool, not, ◌&&◌, ◌||◌, List, [], ◌∷◌, map, length, ℤ, pos, negsuc, ◌+ℤ◌, ◌-ℤ◌, ◌*ℤ◌, neg_ℤ, IfOk, Some, None, Ok, Err, fold, sum, Result, ◌==◌, int_lt, nat_lt, slice_index, slice_index_or, unsigned_abs, refl}
+use Rattle.std.specs.List.{list_any}
 use Rattle.figures.specs.Grounds.{first_of, Judged}
 use Rattle.figures.specs.Rounding.{apart}
 use Rattle.figures.specs.declared.grounds.Ground.{Ground}
 use Rattle.figures.specs.declared.grounds.Layer.TheVariants.{Rule}
 use Rattle.figures.specs.declared.units.Cents.{Cents}
-use Rattle.division.specs.Limits.{max_total, max_seats, max_load}
+use Rattle.figures.specs.Limits.{max_seats}
+use Rattle.division.specs.Limits.{max_total, max_load}
 use Rattle.division.specs.Columns.{cents_of, amounts}
 use Rattle.division.specs.declared.rules.DivisionFault.{DivisionFault}
 use Rattle.division.specs.declared.rules.DivisionFault.TheVariants.{Beyond, NoLoad}
 
 abbrev pub heavy : List ℕ → Bool
-heavy [] = false
-heavy (l ∷ ls) = nat_lt max_load l || heavy ls
+heavy ls = list_any (nat_lt max_load) ls
 
 abbrev pub unfit : List ℕ → ℕ → Bool
 unfit ls n = length ls == 0 || (nat_lt max_seats (length ls) || (heavy ls || not (n == length ls)))

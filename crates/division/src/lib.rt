@@ -7,6 +7,7 @@ pub mod rules;
 pub mod signed;
 
 pub use cut::RunningCut;
+pub use figures::MAX_SEATS;
 pub use remainder::{LargestRemainder, largest_first};
-pub use rules::{DivisionFault, DivisionRule, MAX_LOAD, MAX_SEATS, MAX_TOTAL, ready};
+pub use rules::{Division, DivisionFault, DivisionRule, MAX_LOAD, MAX_TOTAL};
 pub use signed::divide_signed;

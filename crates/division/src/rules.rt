@@ -1,16 +1,15 @@
-ghost use Rattle.std.specs.Prelude.{◌≡◌, ℕ, true, false, List, length, IfOk, sum, MatchOption, unsigned_abs};
+ghost use Rattle.std.specs.Prelude.{◌≡◌, ℕ, true, false, List, length, IfOk, sum, MatchResult, unsigned_abs};
 ghost use Rattle.figures.specs.Grounds.{Judged};
 ghost use Rattle.division.specs.Columns.{tenths};
-ghost use Rattle.division.specs.Rules.{unfit, rule_grounds, ground_of, RuleDivided, Fair, Lawful};
+ghost use Rattle.division.specs.Rules.{heavy, unfit, rule_grounds, ground_of, RuleDivided, Fair, Lawful};
+ghost use Rattle.division.specs.declared.rules.DivisionFault.TheVariants.{Beyond};
 
-use figures::{Cents, Ground, Layer, Load};
+use figures::{Cents, Ground, Layer, Load, MAX_SEATS};
 
-// The largest total that a rule divides, in cents.
+// The largest total that a rule divides, in cents. A plain number, since its opposite is a limit too.
 pub const MAX_TOTAL: i64 = 1_500_000_000_000;
-// The most seats that share a total.
-pub const MAX_SEATS: usize = 16;
-// The largest load of a seat, in tenths of a MWh.
-pub const MAX_LOAD: u32 = 300_000;
+// The largest load of a seat.
+pub const MAX_LOAD: Load = Load(300_000);
 
 #[derive(Clone, Copy, PartialEq, Eq, Debug)]
 pub enum DivisionFault {
@@ -20,21 +19,18 @@ pub enum DivisionFault {
     NoLoad,
 }
 
-impl DivisionFault {
-    pub fn ground(self) -> Ground
-        ensures { result ≡ ground_of self }
-    {
-        match self {
-            DivisionFault::Beyond => Ground {
-                number: 21,
-                layer: Layer::Rule,
-                place: 0,
-            },
-            DivisionFault::NoLoad => Ground {
-                number: 22,
-                layer: Layer::Rule,
-                place: 0,
-            },
+impl From<DivisionFault> for Ground {
+    ghost from_gives = { λ e g. g ≡ ground_of e };
+
+    fn from(fault: DivisionFault) -> Ground {
+        let number = match fault {
+            DivisionFault::Beyond => 21,
+            DivisionFault::NoLoad => 22,
+        };
+        Ground {
+            number,
+            layer: Layer::Rule,
+            place: 0,
         }
     }
 }
@@ -44,51 +40,64 @@ pub trait DivisionRule {
     // The letter that heads every statement made by the rule.
     const LETTER: char;
 
-    // That letter's code, for contracts.
-    ghost code: { ℕ };
+    ghost LETTER: { ℕ };
 
     // What the rule means: the shares of a total over loads.
     ghost shares: { Self → ℕ → List ℕ → List ℕ };
 
-    // The letter again, for generic code: each rule answers `Self::LETTER`, and the clause says which letter that is.
-    fn heading() -> char
-        ensures { result ≡ code };
-
-    // Writes one share a seat, or denies and leaves the column as it was.
+    // Writes one share a seat, or denies and leaves the column as it was. Each rule begins with `Division::new`; a body here
+    // would need a public step that asks its caller for a column of the right length.
     fn divide(&self, total: Cents, loads: &[Load], out: &mut [Cents]) -> Result<(), DivisionFault>
         ensures { RuleDivided (shares self.now) total.0 (tenths loads.now) out.old result out.new };
 
     ghost keeps: { (rule : Self) (t : ℕ) (ls : List ℕ) → Fair t ls → Lawful t ls (shares rule t ls) };
 }
 
-// The sum of the loads, where they and a share column of length `room` are what a division takes.
-pub(crate) fn sum_if_fit(loads: &[Load], room: usize) -> Option<u64>
-    ensures { MatchOption result (unfit (tenths loads.now) room ≡ true) (λ n. (unfit (tenths loads.now) room ≡ false) × (n ≡ sum (tenths loads.now))) }
-{
-    if loads.is_empty() || loads.len() > MAX_SEATS || room != loads.len() {
-        return None;
-    }
-    let mut all: u64 = 0;
-    for load in loads {
-        if load.0 > MAX_LOAD {
-            return None;
-        }
-        all += u64::from(load.0);
-    }
-    Some(all)
+// A total and the loads that share it, each within its limit.
+#[derive(Clone, Copy)]
+pub struct Division<'a> {
+    pub total: u64,
+    pub loads: &'a [Load],
+    // All loads together.
+    pub all: u64,
+    ghost fair: { Fair total (tenths loads.now) },
+    ghost added: { all ≡ sum (tenths loads.now) },
 }
 
-// The checks that every rule makes first; the sum of the loads.
-pub fn ready(total: Cents, loads: &[Load], room: usize) -> Result<u64, DivisionFault>
-    ensures judged { Judged (rule_grounds total.0 (tenths loads.now) room) result }
-    ensures fair { IfOk result (λ all. Fair (unsigned_abs total.0) (tenths loads.now) × (room ≡ length loads.now) × (all ≡ sum (tenths loads.now))) }
+impl<'a> Division<'a> {
+    // Makes the checks that every rule makes first, for a share column of length `room`.
+    pub fn new(total: Cents, loads: &'a [Load], room: usize) -> Result<Division<'a>, DivisionFault>
+        ensures judged { Judged (rule_grounds total.0 (tenths loads.now) room) result }
+        ensures made { IfOk result (λ d. (d.total ≡ unsigned_abs total.0) × (d.loads.now ≡ loads.now) × (room ≡ length loads.now)) }
+    {
+        if !(0..=MAX_TOTAL).contains(&total.0) {
+            return Err(DivisionFault::Beyond);
+        }
+        let all = sum_if_fit(loads, room)?;
+        if all == 0 {
+            return Err(DivisionFault::NoLoad);
+        }
+        Ok(Division {
+            total: total.0 as u64,
+            loads,
+            all,
+        })
+    }
+}
+
+// Some load is above its limit.
+fn any_heavy(loads: &[Load]) -> bool
+    ensures { result ≡ heavy (tenths loads.now) }
 {
-    if total.0 < 0 || total.0 > MAX_TOTAL {
+    loads.iter().any(|load| *load > MAX_LOAD)
+}
+
+// The sum of the loads, where they and a share column of length `room` are what a division takes.
+pub(crate) fn sum_if_fit(loads: &[Load], room: usize) -> Result<u64, DivisionFault>
+    ensures { MatchResult result (λ n. (unfit (tenths loads.now) room ≡ false) × (n ≡ sum (tenths loads.now))) (λ e. (unfit (tenths loads.now) room ≡ true) × (e ≡ Beyond)) }
+{
+    if loads.is_empty() || loads.len() > MAX_SEATS || any_heavy(loads) || room != loads.len() {
         return Err(DivisionFault::Beyond);
     }
-    match sum_if_fit(loads, room) {
-        None => Err(DivisionFault::Beyond),
-        Some(0) => Err(DivisionFault::NoLoad),
-        Some(all) => Ok(all),
-    }
+    Ok(loads.iter().map(|load| u64::from(load.0)).sum())
 }

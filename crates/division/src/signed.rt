@@ -4,6 +4,7 @@ ghost use Rattle.division.specs.Rules.{signed_grounds, Divided, SignedDivided};
 
 use crate::rules::{DivisionFault, DivisionRule, MAX_TOTAL, sum_if_fit};
 use figures::{Cents, Load};
+use std::cmp::Ordering;
 
 // Divides a signed total by any rule: a negative one as its opposite, every share negated; a total of 0 gives every
 // seat 0, and then the loads may all be 0.
@@ -15,30 +16,26 @@ pub fn divide_signed<R: DivisionRule>(
 ) -> Result<(), DivisionFault>
     ensures { SignedDivided (R.DivisionRule.shares rule.now) total.0 (tenths loads.now) out.old result out.new }
 {
-    if total.0 < -MAX_TOTAL || total.0 > MAX_TOTAL {
+    if !(-MAX_TOTAL..=MAX_TOTAL).contains(&total.0) {
         return Err(DivisionFault::Beyond);
     }
-    if total.0 == 0 {
-        return give_nothing(loads, out);
+    match total.0.cmp(&0) {
+        Ordering::Equal => give_nothing(loads, out),
+        Ordering::Greater => rule.divide(total, loads, out),
+        Ordering::Less => {
+            rule.divide(Cents(-total.0), loads, out)?;
+            negate(out);
+            Ok(())
+        }
     }
-    if total.0 > 0 {
-        return rule.divide(total, loads, out);
-    }
-    rule.divide(Cents(-total.0), loads, out)?;
-    negate(out);
-    Ok(())
 }
 
 // The shares of a total of 0.
 fn give_nothing(loads: &[Load], out: &mut [Cents]) -> Result<(), DivisionFault>
     ensures { Divided (signed_grounds (pos 0) (tenths loads.now) (length out.old)) (cents_of (map (λ _. pos 0) (tenths loads.now))) out.old result out.new }
 {
-    let Some(_all) = sum_if_fit(loads, out.len()) else {
-        return Err(DivisionFault::Beyond);
-    };
-    for share in out.iter_mut() {
-        *share = Cents(0);
-    }
+    sum_if_fit(loads, out.len())?;
+    out.fill(Cents(0));
     Ok(())
 }
 

@@ -2,3 +2,4 @@ pub mod Grounds
 pub mod Limits
 pub mod Rounding
 pub mod Prices
+pub mod SeatSums

@@ -6,8 +6,8 @@ pub mod prices;
 pub mod units;
 
 pub use grounds::{Ground, Layer};
-pub use prices::{MAX_FACTOR, MAX_HOURS, MAX_PRICE, TermFigures, Terms, TermsFault};
+pub use prices::{MAX_FACTOR, MAX_PRICE, TermFigures, Terms, TermsFault};
 pub use units::{
-    Cents, Factor, Hour, Kw, Load, MAX_SEATS, MAX_ZONES, PRODUCTS, Price, Product, Seat,
+    Cents, Factor, Hour, Kw, Load, MAX_HOURS, MAX_SEATS, MAX_ZONES, PRODUCTS, Price, Product, Seat,
     TradeNumber, Zone,
 };

@@ -4,14 +4,12 @@ ghost use Rattle.figures.specs.Rounding.{rounded, Nearest};
 ghost use Rattle.figures.specs.Prices.{beyond, term_grounds, ground_of, net_of, credit_of, penalty_of};
 
 use crate::grounds::{Ground, Layer};
-use crate::units::{Cents, Factor, Kw, Price, Product};
+use crate::units::{Cents, Factor, Kw, MAX_HOURS, Price, Product};
 
-// The most delivery hours a month has.
-pub const MAX_HOURS: u16 = 744;
 // The highest price, in cents for a MW and month.
-pub const MAX_PRICE: u32 = 2_000_000;
+pub const MAX_PRICE: Price = Price(2_000_000);
 // The highest penalty factor, in hundredths.
-pub const MAX_FACTOR: u16 = 500;
+pub const MAX_FACTOR: Factor = Factor(500);
 
 // The terms of a month as they are given, within their limits or not.
 #[derive(Clone, Copy)]
@@ -32,11 +30,11 @@ pub enum TermsFault {
     Beyond,
 }
 
-impl TermsFault {
-    pub fn ground(self) -> Ground
-        ensures { result ≡ ground_of self }
-    {
-        match self {
+impl From<TermsFault> for Ground {
+    ghost from_gives = { λ e g. g ≡ ground_of e };
+
+    fn from(fault: TermsFault) -> Ground {
+        match fault {
             TermsFault::Beyond => Ground {
                 number: 5,
                 layer: Layer::Month,
@@ -71,6 +69,7 @@ fn rounded_cents(n: u64, d: u64) -> Cents
     ensures value { result.0 ≡ pos (rounded n d) }
     ensures nearest { Nearest n d (unsigned_abs result.0) }
 {
+    // An `as` that is proved to fit: `try_from` would add an error that cannot be.
     Cents(half_up(n, d) as i64)
 }
 
@@ -82,13 +81,10 @@ impl Terms {
         if figures.hours == 0 || figures.hours > MAX_HOURS {
             return Err(TermsFault::Beyond);
         }
-        if figures.tmnsr.0 > MAX_PRICE
-            || figures.tmor.0 > MAX_PRICE
-            || figures.capacity.0 > MAX_PRICE
-        {
+        if figures.tmnsr > MAX_PRICE || figures.tmor > MAX_PRICE || figures.capacity > MAX_PRICE {
             return Err(TermsFault::Beyond);
         }
-        if figures.factor.0 > MAX_FACTOR {
+        if figures.factor > MAX_FACTOR {
             return Err(TermsFault::Beyond);
         }
         Ok(Terms { figures })
@@ -98,9 +94,9 @@ impl Terms {
     pub fn net(&self, product: Product) -> Price
         ensures { result.0 ≡ net_of self.now.figures product.0 }
     {
-        let clearing = match product.0 {
-            0 => self.figures.tmnsr.0,
-            1 => self.figures.tmor.0,
+        let clearing = match product {
+            Product::TMNSR => self.figures.tmnsr.0,
+            Product::TMOR => self.figures.tmor.0,
             _ => 0,
         };
         Price(clearing.saturating_sub(self.figures.capacity.0))

@@ -1,5 +1,5 @@
 use division::{DivisionFault, DivisionRule, LargestRemainder, RunningCut, divide_signed};
-use figures::{Cents, Factor, Kw, Load, Price, Product, TermFigures, Terms};
+use figures::{Cents, Factor, Ground, Kw, Load, Price, Product, TermFigures, Terms};
 use std::test::Fail;
 
 // 320 hours, net price 600,000 for product 0 and 0 for product 1, factor 1.50.
@@ -25,22 +25,19 @@ fn highest() -> TermFigures {
 }
 
 fn refused(figures: TermFigures) -> bool {
-    match Terms::new(figures) {
-        Ok(_) => false,
-        Err(fault) => {
-            let ground = fault.ground();
-            ground.number == 5 && ground.layer.letter() == 'm' && ground.place == 0
-        }
-    }
+    Terms::new(figures).is_err_and(|fault| {
+        let ground = Ground::from(fault);
+        ground.number == 5 && ground.layer.letter() == 'm' && ground.place == 0
+    })
 }
 
 #[test]
 fn credits_and_penalties(rt: HostRuntime) -> Result<(), Fail> {
     let terms = Terms::new(example())?;
-    assert_eq!(rt; terms.credit(Product(0), Kw(7_500)).0, 14_063);
-    assert_eq!(rt; terms.penalty(Product(0), Kw(500)).0, 1_406);
+    assert_eq!(rt; terms.credit(Product::TMNSR, Kw(7_500)).0, 14_063);
+    assert_eq!(rt; terms.penalty(Product::TMNSR, Kw(500)).0, 1_406);
     // the price of product 1 equals the capacity price; there is no product 2
-    assert_eq!(rt; terms.credit(Product(1), Kw(7_500)).0, 0);
+    assert_eq!(rt; terms.credit(Product::TMOR, Kw(7_500)).0, 0);
     assert_eq!(rt; terms.credit(Product(2), Kw(7_500)).0, 0);
     Ok(())
 }
@@ -49,74 +46,66 @@ fn credits_and_penalties(rt: HostRuntime) -> Result<(), Fail> {
 fn rounded_once_and_each_by_itself(rt: HostRuntime) -> Result<(), Fail> {
     let terms = Terms::new(example())?;
     // 1.875 cents a kW: rounding that rate first would give 15,000
-    assert_eq!(rt; terms.credit(Product(0), Kw(7_500)).0, 14_063);
+    assert_eq!(rt; terms.credit(Product::TMNSR, Kw(7_500)).0, 14_063);
     // 937.5 and 1,406.25 cents: netting before rounding would give -469
-    assert_eq!(rt; terms.credit(Product(0), Kw(500)).0, 938);
+    assert_eq!(rt; terms.credit(Product::TMNSR, Kw(500)).0, 938);
     let account = terms
-        .credit(Product(0), Kw(500))
+        .credit(Product::TMNSR, Kw(500))
         .0
-        .checked_sub(terms.penalty(Product(0), Kw(500)).0);
+        .checked_sub(terms.penalty(Product::TMNSR, Kw(500)).0);
     assert_eq!(rt; account, Some(-468));
     Ok(())
 }
 
 #[test]
 fn limits_of_terms(rt: HostRuntime) {
-    assert_eq!(rt;
-        refused(TermFigures {
+    assert!(rt;
+        !refused(TermFigures {
             hours: 744,
             ..highest()
-        }),
-        false
+        })
     );
-    assert_eq!(rt;
+    assert!(rt;
         refused(TermFigures {
             hours: 745,
             ..highest()
-        }),
-        true
+        })
     );
-    assert_eq!(rt;
+    assert!(rt;
         refused(TermFigures {
             hours: 0,
             ..highest()
-        }),
-        true
+        })
     );
-    assert_eq!(rt;
+    assert!(rt;
         refused(TermFigures {
             tmnsr: Price(2_000_001),
             ..highest()
-        }),
-        true
+        })
     );
-    assert_eq!(rt;
+    assert!(rt;
         refused(TermFigures {
             tmor: Price(2_000_001),
             ..highest()
-        }),
-        true
+        })
     );
-    assert_eq!(rt;
-        refused(TermFigures {
+    assert!(rt;
+        !refused(TermFigures {
             capacity: Price(2_000_000),
             ..highest()
-        }),
-        false
+        })
     );
-    assert_eq!(rt;
+    assert!(rt;
         refused(TermFigures {
             capacity: Price(2_000_001),
             ..highest()
-        }),
-        true
+        })
     );
-    assert_eq!(rt;
+    assert!(rt;
         refused(TermFigures {
             factor: Factor(501),
             ..highest()
-        }),
-        true
+        })
     );
 }
 
@@ -124,11 +113,11 @@ fn limits_of_terms(rt: HostRuntime) {
 fn largest_products(rt: HostRuntime) -> Result<(), Fail> {
     let terms = Terms::new(highest())?;
     assert_eq!(rt;
-        terms.credit(Product(1), Kw(4_294_967_295)).0,
+        terms.credit(Product::TMOR, Kw(4_294_967_295)).0,
         8_589_934_590_000
     );
     assert_eq!(rt;
-        terms.penalty(Product(1), Kw(4_294_967_295)).0,
+        terms.penalty(Product::TMOR, Kw(4_294_967_295)).0,
         42_949_672_950_000
     );
     // a capacity price above the clearing price leaves nothing, and no less
@@ -136,7 +125,7 @@ fn largest_products(rt: HostRuntime) -> Result<(), Fail> {
         tmnsr: Price(299_999),
         ..example()
     })?;
-    assert_eq!(rt; low.net(Product(0)).0, 0);
+    assert_eq!(rt; low.net(Product::TMNSR).0, 0);
     Ok(())
 }
 
@@ -147,12 +136,8 @@ fn three<R: DivisionRule>(
     loads: [u32; 3],
 ) -> (Option<DivisionFault>, [i64; 3]) {
     let mut out = [Cents(-7); 3];
-    let answer = rule.divide(
-        Cents(total),
-        &[Load(loads[0]), Load(loads[1]), Load(loads[2])],
-        &mut out,
-    );
-    (answer.err(), [out[0].0, out[1].0, out[2].0])
+    let answer = rule.divide(Cents(total), &loads.map(Load), &mut out);
+    (answer.err(), out.map(|share| share.0))
 }
 
 #[test]
@@ -196,19 +181,19 @@ fn denied_and_unaltered(rt: HostRuntime) {
 fn columns_and_signs(rt: HostRuntime) {
     let mut out = [Cents(-7); 2];
     // a column shorter than the loads, and one longer
-    let short = LargestRemainder.divide(Cents(9), &[Load(1), Load(1), Load(1)], &mut out);
-    assert_eq!(rt; short.err(), Some(DivisionFault::Beyond));
+    let short = LargestRemainder.divide(Cents(9), &[Load(1); 3], &mut out);
+    assert_eq!(rt; short, Err(DivisionFault::Beyond));
     let long = RunningCut.divide(Cents(9), &[Load(1)], &mut out);
-    assert_eq!(rt; long.err(), Some(DivisionFault::Beyond));
-    assert_eq!(rt; (out[0].0, out[1].0), (-7, -7));
+    assert_eq!(rt; long, Err(DivisionFault::Beyond));
+    assert_eq!(rt; out, [Cents(-7), Cents(-7)]);
     let loads = [Load(100), Load(150)];
     assert!(rt; divide_signed(&RunningCut, Cents(-12_657), &loads, &mut out).is_ok());
-    assert_eq!(rt; (out[0].0, out[1].0), (-5_062, -7_595));
+    assert_eq!(rt; out, [Cents(-5_062), Cents(-7_595)]);
     // a total of 0 needs no load, another does
     assert!(rt; divide_signed(&RunningCut, Cents(0), &[Load(0), Load(0)], &mut out).is_ok());
-    assert_eq!(rt; (out[0].0, out[1].0), (0, 0));
+    assert_eq!(rt; out, [Cents(0), Cents(0)]);
     let idle = divide_signed(&RunningCut, Cents(-1), &[Load(0), Load(0)], &mut out);
-    assert_eq!(rt; idle.err(), Some(DivisionFault::NoLoad));
+    assert_eq!(rt; idle, Err(DivisionFault::NoLoad));
     let least = divide_signed(&RunningCut, Cents(i64::MIN), &loads, &mut out);
-    assert_eq!(rt; least.err(), Some(DivisionFault::Beyond));
+    assert_eq!(rt; least, Err(DivisionFault::Beyond));
 }

@@ -2,13 +2,13 @@
 #![tactic(auto)]
 
 ghost use Rattle.std.specs.Prelude.{◌≡◌, []};
-ghost use Rattle.sheet.specs.Tables.{at, kilowatts, total_at};
+ghost use Rattle.sheet.specs.Tables.{kilowatts, total_at};
 ghost use Rattle.book.specs.Deals.{confirm_answer, confirmed_in, deal_of};
 ghost use Rattle.book.specs.Books.{table_of, Lawful, Called};
 
 use book::{Book, BookFault, Pages};
-use figures::{Hour, Kw, Product, Seat, TradeNumber, Zone};
-use sheet::Sheet;
+use figures::{Kw, Seat, TradeNumber};
+use sheet::{Place, Sheet};
 
 #[cfg(test)]
 mod tests;
@@ -43,13 +43,8 @@ pub fn confirm_above<S: Sheet>(
 }
 
 // What all seats hold together in the upper of two books.
-pub fn total_above<S: Sheet>(
-    pile: &Book<Book<S>>,
-    zone: Zone,
-    product: Product,
-    hour: Hour,
-) -> Option<Kw>
-    ensures { Lawful (table_of S.Sheet.table) (Lawful S.Sheet.table S.Sheet.lawful) pile.now → kilowatts result ≡ total_at (table_of (table_of S.Sheet.table) pile.now) (at zone.0 product.0 hour.0) }
+pub fn total_above<S: Sheet>(pile: &Book<Book<S>>, place: Place) -> Option<Kw>
+    ensures { Lawful (table_of S.Sheet.table) (Lawful S.Sheet.table S.Sheet.lawful) pile.now → kilowatts result ≡ total_at (table_of (table_of S.Sheet.table) pile.now) place }
 {
-    pile.total(zone, product, hour)
+    pile.total(place)
 }

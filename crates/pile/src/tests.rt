@@ -1,63 +1,50 @@
 use super::{confirm_above, pile_of_four, total_above};
 use book::{Book, BookFault, Deal, Offer, Pages};
-use figures::{Ground, Hour, Kw, Product, Seat, TradeNumber, Zone};
-use sheet::{AwardSheet, HourlySheet, Lent, Sheet, SheetFault, SheetSize};
+use figures::{Ground, Hour, Kw, Layer, Product, Seat, TradeNumber, Zone};
+use sheet::{AwardSheet, HourlySheet, Place, Sheet, SheetFault, SheetSize};
 use std::test::Fail;
 
-// The number and place of a book's denial, which is of layer b; 0 and 0 where there is none.
-fn denial(answer: Result<(), BookFault>) -> (u8, usize) {
-    match answer {
-        Ok(()) => (0, 0),
-        Err(fault) => {
-            let Ground {
-                number,
-                layer,
-                place,
-            } = fault.ground();
-            if layer.letter() == 'b' {
-                (number, place)
-            } else {
-                (255, place)
-            }
-        }
+// The ground of a denial, where there is one.
+fn denial<F: Into<Ground>>(answer: Result<(), F>) -> Option<Ground> {
+    answer.err().map(|fault| fault.into())
+}
+
+const DONE: Option<Ground> = None;
+
+// A denial by a book.
+fn by_book(number: u8, place: usize) -> Option<Ground> {
+    Some(Ground {
+        number,
+        layer: Layer::Book,
+        place,
+    })
+}
+
+// A denial by a sheet.
+fn by_sheet(number: u8) -> Option<Ground> {
+    Some(Ground {
+        number,
+        layer: Layer::Sheet,
+        place: 0,
+    })
+}
+
+fn sized(seats: u8, zones: u8) -> Option<Ground> {
+    denial(SheetSize::new(seats, zones).map(|_| ()))
+}
+
+fn at(zone: u8, product: u8, hour: u16) -> Place {
+    Place {
+        zone: Zone(zone),
+        product: Product(product),
+        hour: Hour(hour),
     }
 }
 
-// The number of a sheet's denial, which is of layer s and at place 0; 0 where there is none.
-fn sheet_denial(answer: Result<(), SheetFault>) -> u8 {
-    match answer {
-        Ok(()) => 0,
-        Err(fault) => {
-            let Ground {
-                number,
-                layer,
-                place,
-            } = fault.ground();
-            if layer.letter() == 's' && place == 0 {
-                number
-            } else {
-                255
-            }
-        }
-    }
+// The kW of a cell, none where it is blank.
+fn kw(cell: Option<Kw>) -> Option<u32> {
+    cell.map(|kw| kw.0)
 }
-
-fn size_denial(seats: u8, zones: u8) -> u8 {
-    match SheetSize::new(seats, zones) {
-        Ok(_) => 0,
-        Err(fault) => sheet_denial(Err(fault)),
-    }
-}
-
-// The kW of a cell; a blank is shown as a figure that no cell holds.
-fn kw(cell: Option<Kw>) -> u32 {
-    match cell {
-        Some(kw) => kw.0,
-        None => 4_294_967_295,
-    }
-}
-
-const BLANK: u32 = 4_294_967_295;
 
 // An offer of product 0 in zone 0.
 fn sale(number: u16, seller: u8, buyer: u8, first: u16, last: u16, kw: u32) -> Offer {
@@ -74,26 +61,33 @@ fn sale(number: u16, seller: u8, buyer: u8, first: u16, last: u16, kw: u32) -> O
 }
 
 // What a seat holds of product 0 in zone 0.
-fn held<S: Sheet>(sheet: &S, seat: u8, hour: u16) -> u32 {
-    kw(sheet.cell(Seat(seat), Zone(0), Product(0), Hour(hour)))
+fn held<S: Sheet>(sheet: &S, seat: u8, hour: u16) -> Option<u32> {
+    kw(sheet.cell(Seat(seat), at(0, 0, hour)))
 }
 
-fn all<S: Sheet>(sheet: &S, hour: u16) -> u32 {
-    kw(sheet.total(Zone(0), Product(0), Hour(hour)))
+fn all<S: Sheet>(sheet: &S, hour: u16) -> Option<u32> {
+    kw(sheet.total(at(0, 0, hour)))
 }
 
 #[test]
 fn size_of_a_sheet(rt: HostRuntime) {
     assert_eq!(rt;
         [
-            size_denial(1, 1),
-            size_denial(16, 4),
-            size_denial(0, 1),
-            size_denial(17, 1),
-            size_denial(1, 0),
-            size_denial(1, 5),
+            sized(1, 1),
+            sized(16, 4),
+            sized(0, 1),
+            sized(17, 1),
+            sized(1, 0),
+            sized(1, 5),
         ],
-        [0, 0, 5, 5, 5, 5]
+        [
+            DONE,
+            DONE,
+            by_sheet(5),
+            by_sheet(5),
+            by_sheet(5),
+            by_sheet(5)
+        ]
     );
 }
 
@@ -102,15 +96,26 @@ fn awards(rt: HostRuntime) -> Result<(), Fail> {
     let mut sheet = AwardSheet::new(SheetSize::new(2, 1)?);
     // an award of 0 is an award
     let answers = [
-        sheet_denial(sheet.award(Seat(0), Zone(0), Product(0), Kw(1_000_000))),
-        sheet_denial(sheet.award(Seat(0), Zone(0), Product(1), Kw(0))),
-        sheet_denial(sheet.award(Seat(0), Zone(0), Product(1), Kw(7))),
-        sheet_denial(sheet.award(Seat(0), Zone(0), Product(0), Kw(1_000_001))),
-        sheet_denial(sheet.award(Seat(2), Zone(0), Product(0), Kw(1_000_001))),
-        sheet_denial(sheet.award(Seat(1), Zone(1), Product(0), Kw(1))),
-        sheet_denial(sheet.award(Seat(1), Zone(0), Product(2), Kw(1))),
+        denial(sheet.award(Seat(0), Zone(0), Product(0), Kw(1_000_000))),
+        denial(sheet.award(Seat(0), Zone(0), Product(1), Kw(0))),
+        denial(sheet.award(Seat(0), Zone(0), Product(1), Kw(7))),
+        denial(sheet.award(Seat(0), Zone(0), Product(0), Kw(1_000_001))),
+        denial(sheet.award(Seat(2), Zone(0), Product(0), Kw(1_000_001))),
+        denial(sheet.award(Seat(1), Zone(1), Product(0), Kw(1))),
+        denial(sheet.award(Seat(1), Zone(0), Product(2), Kw(1))),
     ];
-    assert_eq!(rt; answers, [0, 0, 8, 7, 6, 6, 6]);
+    assert_eq!(rt;
+        answers,
+        [
+            DONE,
+            DONE,
+            by_sheet(8),
+            by_sheet(7),
+            by_sheet(6),
+            by_sheet(6),
+            by_sheet(6)
+        ]
+    );
     let cells = [
         held(&sheet, 0, 0),
         held(&sheet, 0, 743),
@@ -119,11 +124,20 @@ fn awards(rt: HostRuntime) -> Result<(), Fail> {
         held(&sheet, 2, 5),
         all(&sheet, 5),
         all(&sheet, 744),
-        kw(sheet.cell(Seat(0), Zone(0), Product(1), Hour(0))),
+        kw(sheet.cell(Seat(0), at(0, 1, 0))),
     ];
     assert_eq!(rt;
         cells,
-        [1_000_000, 1_000_000, BLANK, 0, BLANK, 1_000_000, BLANK, 0]
+        [
+            Some(1_000_000),
+            Some(1_000_000),
+            None,
+            Some(0),
+            None,
+            Some(1_000_000),
+            None,
+            Some(0)
+        ]
     );
     Ok(())
 }
@@ -132,21 +146,31 @@ fn awards(rt: HostRuntime) -> Result<(), Fail> {
 fn figures_hour_by_hour(rt: HostRuntime) -> Result<(), Fail> {
     // seat 0 and seat 1, products 0 and 1; hour 1 breaks off after seat 0's product 0
     let column = [10, 11, 20, 1_000_001, 1_000_000];
-    let sheet = HourlySheet::new(SheetSize::new(2, 1)?, Lent(&column));
+    let sheet = HourlySheet::new(SheetSize::new(2, 1)?, &column[..]);
     let cells = [
         held(&sheet, 0, 0),
         held(&sheet, 1, 0),
         all(&sheet, 0),
-        kw(sheet.cell(Seat(0), Zone(0), Product(1), Hour(0))),
-        kw(sheet.cell(Seat(1), Zone(0), Product(1), Hour(0))),
-        kw(sheet.total(Zone(0), Product(1), Hour(0))),
+        kw(sheet.cell(Seat(0), at(0, 1, 0))),
+        kw(sheet.cell(Seat(1), at(0, 1, 0))),
+        kw(sheet.total(at(0, 1, 0))),
         held(&sheet, 0, 1),
         held(&sheet, 1, 1),
         all(&sheet, 1),
     ];
     assert_eq!(rt;
         cells,
-        [10, 20, 30, 11, BLANK, BLANK, 1_000_000, BLANK, BLANK]
+        [
+            Some(10),
+            Some(20),
+            Some(30),
+            Some(11),
+            None,
+            None,
+            Some(1_000_000),
+            None,
+            None
+        ]
     );
     Ok(())
 }
@@ -155,13 +179,13 @@ fn figures_hour_by_hour(rt: HostRuntime) -> Result<(), Fail> {
 fn zones_come_before_products(rt: HostRuntime) -> Result<(), Fail> {
     // one seat and two zones in one hour
     let column = [1, 2, 3, 4];
-    let sheet = HourlySheet::new(SheetSize::new(1, 2)?, Lent(&column));
+    let sheet = HourlySheet::new(SheetSize::new(1, 2)?, &column[..]);
     assert_eq!(rt;
         [
-            kw(sheet.cell(Seat(0), Zone(0), Product(1), Hour(0))),
-            kw(sheet.cell(Seat(0), Zone(1), Product(0), Hour(0))),
+            kw(sheet.cell(Seat(0), at(0, 1, 0))),
+            kw(sheet.cell(Seat(0), at(1, 0, 0))),
         ],
-        [2, 3]
+        [Some(2), Some(3)]
     );
     Ok(())
 }
@@ -177,7 +201,7 @@ fn ten_for_seat_0() -> Result<AwardSheet, SheetFault> {
 fn a_blank_met_at_its_hour(rt: HostRuntime) -> Result<(), Fail> {
     // product 0 of seats 0 and 1, hours 0 to 3: 5 and 5, 1 and 5, 5 and blank; hour 3 is beyond the column's end
     let column = [5, 0, 5, 0, 1, 0, 5, 0, 5, 0, 1_000_001, 0];
-    let sheet = HourlySheet::new(SheetSize::new(2, 1)?, Lent(&column));
+    let sheet = HourlySheet::new(SheetSize::new(2, 1)?, &column[..]);
     let mut book = Book::new(sheet, Pages::new(rt.alloc())?);
     let offers = [
         denial(book.offer(sale(1, 0, 1, 0, 2, 3))),
@@ -186,7 +210,7 @@ fn a_blank_met_at_its_hour(rt: HostRuntime) -> Result<(), Fail> {
         denial(book.offer(sale(4, 0, 1, 0, 1, 3))),
         denial(book.offer(sale(5, 0, 1, 0, 0, 3))),
     ];
-    assert_eq!(rt; offers, [(0, 0), (0, 0), (0, 0), (0, 0), (0, 0)]);
+    assert_eq!(rt; offers, [DONE, DONE, DONE, DONE, DONE]);
     // the blank in hour 2 comes before the short seller in hour 1
     let confirms = [
         denial(book.confirm(TradeNumber(1), Seat(1))),
@@ -195,7 +219,16 @@ fn a_blank_met_at_its_hour(rt: HostRuntime) -> Result<(), Fail> {
         denial(book.confirm(TradeNumber(4), Seat(1))),
         denial(book.confirm(TradeNumber(5), Seat(1))),
     ];
-    assert_eq!(rt; confirms, [(16, 2), (16, 2), (16, 3), (17, 1), (0, 0)]);
+    assert_eq!(rt;
+        confirms,
+        [
+            by_book(16, 2),
+            by_book(16, 2),
+            by_book(16, 3),
+            by_book(17, 1),
+            DONE
+        ]
+    );
     assert_eq!(rt;
         [
             held(&book, 0, 0),
@@ -204,7 +237,7 @@ fn a_blank_met_at_its_hour(rt: HostRuntime) -> Result<(), Fail> {
             held(&book, 1, 2),
             all(&book, 2),
         ],
-        [2, 8, 10, BLANK, BLANK]
+        [Some(2), Some(8), Some(10), None, None]
     );
     Ok(())
 }
@@ -220,7 +253,10 @@ fn a_chain_is_covered_in_the_right_order_only(rt: HostRuntime) -> Result<(), Fai
         denial(book.confirm(TradeNumber(2), Seat(2))),
         denial(book.cancel(TradeNumber(1))),
     ];
-    assert_eq!(rt; answers, [(0, 0), (0, 0), (17, 5), (0, 0), (0, 0), (18, 5)]);
+    assert_eq!(rt;
+        answers,
+        [DONE, DONE, by_book(17, 5), DONE, DONE, by_book(18, 5)]
+    );
     assert_eq!(rt;
         [
             held(&book, 0, 5),
@@ -229,16 +265,16 @@ fn a_chain_is_covered_in_the_right_order_only(rt: HostRuntime) -> Result<(), Fai
             held(&book, 2, 4),
             all(&book, 5),
         ],
-        [0, 0, 10, 0, 10]
+        [Some(0), Some(0), Some(10), Some(0), Some(10)]
     );
     let back = [
         denial(book.cancel(TradeNumber(2))),
         denial(book.cancel(TradeNumber(1))),
     ];
-    assert_eq!(rt; back, [(0, 0), (0, 0)]);
+    assert_eq!(rt; back, [DONE, DONE]);
     assert_eq!(rt;
         [held(&book, 0, 5), held(&book, 1, 5), held(&book, 2, 5)],
-        [10, 0, 0]
+        [Some(10), Some(0), Some(0)]
     );
     Ok(())
 }
@@ -262,16 +298,16 @@ fn short_in_a_middle_hour(rt: HostRuntime) -> Result<(), Fail> {
     assert_eq!(rt;
         answers,
         [
-            (0, 0),
-            (0, 0),
-            (0, 0),
-            (17, 3),
-            (0, 0),
-            (0, 0),
-            (0, 0),
-            (0, 0),
-            (0, 0),
-            (18, 4),
+            DONE,
+            DONE,
+            DONE,
+            by_book(17, 3),
+            DONE,
+            DONE,
+            DONE,
+            DONE,
+            DONE,
+            by_book(18, 4),
         ]
     );
     Ok(())
@@ -281,7 +317,7 @@ fn short_in_a_middle_hour(rt: HostRuntime) -> Result<(), Fail> {
 fn the_33rd_trade(rt: HostRuntime) -> Result<(), Fail> {
     let mut book = Book::new(ten_for_seat_0()?, Pages::new(rt.alloc())?);
     for number in 0..32 {
-        assert_eq!(rt; denial(book.offer(sale(number, 0, 1, 0, 0, 1))), (0, 0));
+        assert_eq!(rt; denial(book.offer(sale(number, 0, 1, 0, 0, 1))), DONE);
     }
     // a number that is in the book is met before the full book
     let answers = [
@@ -294,7 +330,14 @@ fn the_33rd_trade(rt: HostRuntime) -> Result<(), Fail> {
     ];
     assert_eq!(rt;
         answers,
-        [(11, 0), (10, 0), (0, 0), (12, 0), (0, 0), (11, 0)]
+        [
+            by_book(11, 0),
+            by_book(10, 0),
+            DONE,
+            by_book(12, 0),
+            DONE,
+            by_book(11, 0)
+        ]
     );
     Ok(())
 }
@@ -331,19 +374,19 @@ fn limits_of_an_offer(rt: HostRuntime) -> Result<(), Fail> {
     assert_eq!(rt;
         answers,
         [
-            (0, 0),
-            (0, 0),
-            (6, 0),
-            (6, 0),
-            (6, 0),
-            (6, 0),
-            (6, 0),
-            (6, 0),
-            (7, 0),
-            (7, 0),
-            (9, 0),
-            (9, 0),
-            (10, 0),
+            DONE,
+            DONE,
+            by_book(6, 0),
+            by_book(6, 0),
+            by_book(6, 0),
+            by_book(6, 0),
+            by_book(6, 0),
+            by_book(6, 0),
+            by_book(7, 0),
+            by_book(7, 0),
+            by_book(9, 0),
+            by_book(9, 0),
+            by_book(10, 0),
         ]
     );
     Ok(())
@@ -363,18 +406,22 @@ fn who_confirms_and_how_often(rt: HostRuntime) -> Result<(), Fail> {
     ];
     assert_eq!(rt;
         answers,
-        [(0, 0), (6, 0), (12, 0), (13, 0), (0, 0), (13, 0), (12, 0)]
+        [
+            DONE,
+            by_book(6, 0),
+            by_book(12, 0),
+            by_book(13, 0),
+            DONE,
+            by_book(13, 0),
+            by_book(12, 0)
+        ]
     );
     Ok(())
 }
 
-// How a call that may be held back ended: 1 done, 2 held, else the number of its ground.
-fn ending(answer: Result<Deal, BookFault>) -> u8 {
-    match answer {
-        Ok(Deal::Done) => 1,
-        Ok(Deal::Held) => 2,
-        Err(fault) => denial(Err(fault)).0,
-    }
+// How a call that may be held back ended, or the number of its ground.
+fn ending(answer: Result<Deal, BookFault>) -> Result<Deal, u8> {
+    answer.map_err(|fault| Ground::from(fault).number)
 }
 
 #[test]
@@ -393,7 +440,22 @@ fn held_back_by_a_layer_above(rt: HostRuntime) -> Result<(), Fail> {
         ending(book.cancel_from(TradeNumber(1), Hour(3))),
         ending(book.cancel_from(TradeNumber(1), Hour(3))),
     ];
-    assert_eq!(rt; answers, [2, 9, 1, 10, 13, 2, 17, 12, 2, 1, 12]);
+    assert_eq!(rt;
+        answers,
+        [
+            Ok(Deal::Held),
+            Err(9),
+            Ok(Deal::Done),
+            Err(10),
+            Err(13),
+            Ok(Deal::Held),
+            Err(17),
+            Err(12),
+            Ok(Deal::Held),
+            Ok(Deal::Done),
+            Err(12),
+        ]
+    );
     Ok(())
 }
 
@@ -411,7 +473,7 @@ fn four_books_over_awards(rt: HostRuntime) -> Result<(), Fail> {
         denial(pile.confirm(TradeNumber(1), Seat(2))),
         denial(pile.confirm(TradeNumber(1), Seat(2))),
     ];
-    assert_eq!(rt; answers, [(0, 0), (0, 0), (13, 0)]);
+    assert_eq!(rt; answers, [DONE, DONE, by_book(13, 0)]);
     assert_eq!(rt;
         [
             held(&pile, 0, 7),
@@ -420,7 +482,7 @@ fn four_books_over_awards(rt: HostRuntime) -> Result<(), Fail> {
             held(&pile, 2, 9),
             all(&pile, 7),
         ],
-        [6, 0, 4, 0, 10]
+        [Some(6), Some(0), Some(4), Some(0), Some(10)]
     );
     Ok(())
 }
@@ -429,13 +491,13 @@ fn four_books_over_awards(rt: HostRuntime) -> Result<(), Fail> {
 fn two_books_over_figures_by_the_hour(rt: HostRuntime) -> Result<(), Fail> {
     // product 0 of seats 0 and 1 in hours 0 and 1: 8 and 1, 8 and blank
     let column = [8, 0, 1, 0, 8, 0, 1_000_001, 0];
-    let sheet = HourlySheet::new(SheetSize::new(2, 1)?, Lent(&column));
+    let sheet = HourlySheet::new(SheetSize::new(2, 1)?, &column[..]);
     let mut lower = Book::new(sheet, Pages::new(rt.alloc())?);
     let below = [
         denial(lower.offer(sale(1, 0, 1, 0, 0, 5))),
         denial(lower.confirm(TradeNumber(1), Seat(1))),
     ];
-    assert_eq!(rt; below, [(0, 0), (0, 0)]);
+    assert_eq!(rt; below, [DONE, DONE]);
     let mut pile = Book::new(lower, Pages::new(rt.alloc())?);
     // the upper book knows its own trades only, and counts on what the lower one leaves: 3 and 6
     let above = [
@@ -446,15 +508,18 @@ fn two_books_over_figures_by_the_hour(rt: HostRuntime) -> Result<(), Fail> {
         denial(pile.offer(sale(3, 0, 1, 0, 1, 1))),
         denial(confirm_above(&mut pile, TradeNumber(3), Seat(1))),
     ];
-    assert_eq!(rt; above, [(0, 0), (0, 0), (0, 0), (17, 0), (0, 0), (16, 1)]);
+    assert_eq!(rt;
+        above,
+        [DONE, DONE, DONE, by_book(17, 0), DONE, by_book(16, 1)]
+    );
     assert_eq!(rt;
         [
             held(&pile, 0, 0),
             held(&pile, 1, 0),
-            kw(total_above(&pile, Zone(0), Product(0), Hour(0))),
-            kw(total_above(&pile, Zone(0), Product(0), Hour(1))),
+            kw(total_above(&pile, at(0, 0, 0))),
+            kw(total_above(&pile, at(0, 0, 1))),
         ],
-        [9, 0, 9, BLANK]
+        [Some(9), Some(0), Some(9), None]
     );
     Ok(())
 }

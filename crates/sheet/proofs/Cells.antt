@@ -2,7 +2,8 @@
 use Rattle.std.proofs.Common.{◌≡◌, ℕ, ◌+◌, ◌<◌, ◌≤◌, false, Some, None, Option, sym, ap, ◌∙◌, ⊎_elim, add-one, arith}
 use Rattle.std.proofs.lemmas.Bool.{and_left, le-ltb, cases_lt}
 use Rattle.sheet.specs.Limits.{max_kw}
-use Rattle.sheet.specs.Tables.{Place, Table, within, filled, filled_up, filled_at, Bounded}
+use Rattle.sheet.specs.declared.places.Place.{Place}
+use Rattle.sheet.specs.Tables.{Table, within, filled, filled_up, filled_at, Bounded}
 use Rattle.sheet.specs.Sums.{steps_on, filled_rises}
 
 cell-le : (t : Table) (s : ℕ) (w : Place) (v : ℕ) → s < t.seats → t.cell s w ≡ Some v → v ≤ filled_at t w

@@ -17,7 +17,8 @@ use Rattle.std.specs.Prelude.{◌≡◌, ℕ, ◌+◌, ◌*◌, ◌<◌, Bool, n
 use Rattle.figures.specs.Limits.{max_zones, products, max_hours}
 use Rattle.figures.specs.declared.units.Kw.{Kw}
 use Rattle.sheet.specs.Limits.{max_award}
-use Rattle.sheet.specs.Tables.{Place, Table, at, framed, on_sheet, kilowatts, filled}
+use Rattle.sheet.specs.Tables.{Table, at, framed, on_sheet, kilowatts, filled}
+use Rattle.sheet.specs.declared.places.Place.{Place}
 use Rattle.sheet.specs.declared.faults.SheetFault.{SheetFault}
 use Rattle.sheet.specs.declared.faults.SheetFault.TheVariants.{NoCell, Figure, Awarded}
 
@@ -34,7 +35,7 @@ abbrev pub held_at : Awards → ℕ → ℕ → ℕ → ℕ
 held_at xs s z p = filled (kilowatts (award_at xs s z p))
 
 abbrev pub award_table : ℕ → ℕ → Awards → Table
-award_table P Z xs = framed P Z (λ s w. Some (held_at xs s w.zone w.product))
+award_table P Z xs = framed P Z (λ s w. Some (held_at xs s w.zone.0 w.product.0))
 
 abbrev pub award_grounds : ℕ → ℕ → Awards → ℕ → ℕ → ℕ → ℕ → List (Bool × SheetFault)
 award_grounds P Z xs s z p k =
@@ -51,7 +52,7 @@ pub record Granted (was : Table) (s z p k : ℕ) (now : Table) : Type 0 where
   pub seats : now.seats ≡ was.seats
   pub zones : now.zones ≡ was.zones
   pub here : (h : ℕ) → h < max_hours → now.cell s (at z p h) ≡ Some k
-  pub elsewhere : (s' : ℕ) (w : Place) → (s' ≡ s → w.zone ≡ z → w.product ≢ p) → now.cell s' w ≡ was.cell s' w
+  pub elsewhere : (s' : ℕ) (w : Place) → (s' ≡ s → w.zone.0 ≡ z → w.product.0 ≢ p) → now.cell s' w ≡ was.cell s' w
 
 -- two seats and one zone; seat 0 was awarded 10,000 kW of product 0
 abbrev example : Awards

@@ -4,7 +4,8 @@ use Rattle.std.proofs.Common.{ap, arith}
 use Rattle.std.proofs.lemmas.Bool.Decides.{nat_tests}
 use Rattle.figures.specs.Limits.{max_seats}
 use Rattle.sheet.specs.Limits.{max_award}
-use Rattle.sheet.specs.Tables.{Place, Bounded, within, framed, filled}
+use Rattle.sheet.specs.declared.places.Place.{Place}
+use Rattle.sheet.specs.Tables.{Bounded, within, framed, filled}
 use Rattle.sheet.specs.Faults.{missized}
 use Rattle.sheet.specs.Sums.{filled-le}
 

@@ -7,10 +7,11 @@ use Rattle.std.specs.Prelude.{◌≡◌, ℕ, ◌+◌, ◌*◌, cond, List, [], 
 use Rattle.std.specs.List.{slice_get}
 use Rattle.figures.specs.Limits.{products}
 use Rattle.sheet.specs.Limits.{max_award}
-use Rattle.sheet.specs.Tables.{Place, Table, at, framed}
+use Rattle.sheet.specs.declared.places.Place.{Place}
+use Rattle.sheet.specs.Tables.{Table, at, framed}
 
 abbrev pub row_of : ℕ → ℕ → ℕ → Place → ℕ
-row_of P Z s w = ((w.hour * P + s) * Z + w.zone) * products + w.product
+row_of P Z s w = ((w.hour.0 * P + s) * Z + w.zone.0) * products + w.product.0
 
 abbrev pub reading : Option ℕ → Option ℕ
 reading None = None

@@ -4,12 +4,13 @@ use Rattle.std.proofs.Common.{arith}
 use Rattle.std.proofs.lemmas.Bool.{cond_both, ltb-false}
 use Rattle.std.proofs.lemmas.Bool.Decides.{nat_tests}
 use Rattle.sheet.specs.Limits.{max_award}
-use Rattle.sheet.specs.Tables.{Place, within, filled}
+use Rattle.sheet.specs.declared.places.Place.{Place}
+use Rattle.sheet.specs.Tables.{within, filled}
 use Rattle.sheet.specs.Faults.{missized}
 use Rattle.sheet.specs.Awards.{spot_of}
 use Rattle.sheet.specs.Hourly.{reading}
 
-pub spot_below : (P Z s : ℕ) (w : Place) → missized P Z ≡ false → within P Z s w ≡ true → spot_of s w.zone w.product < 128
+pub spot_below : (P Z s : ℕ) (w : Place) → missized P Z ≡ false → within P Z s w ≡ true → spot_of s w.zone.0 w.product.0 < 128
 spot_below P Z s w sized inside = grind (arith, nat_tests)
 
 pub reading-le : (o : Option ℕ) → filled (reading o) ≤ max_award

@@ -1,5 +1,4 @@
 -- A table of positions: what a sheet means. Assumes nothing.
---   Place            a zone, a product and an hour
 --   at z p h         the place of zone z, product p and hour h
 --   Table            seats, zones, and a cell for each seat and place, which holds kW or is blank
 --   on_sheet P Z s z p
@@ -19,14 +18,10 @@ use Rattle.std.specs.Prelude.{◌≡◌, ℕ, zero, suc, ◌+◌, ◌<◌, ◌�
 use Rattle.figures.specs.Limits.{max_seats, max_zones, products, max_hours}
 use Rattle.figures.specs.declared.units.Kw.{Kw}
 use Rattle.sheet.specs.Limits.{max_kw}
-
-pub record Place : Type 0 where
-  pub zone : ℕ
-  pub product : ℕ
-  pub hour : ℕ
+use Rattle.sheet.specs.declared.places.Place.{Place}
 
 abbrev pub at : ℕ → ℕ → ℕ → Place
-at z p h = record { zone = z; product = p; hour = h }
+at z p h = record { zone = record { 0 = z }; product = record { 0 = p }; hour = record { 0 = h } }
 
 pub record Table : Type 0 where
   pub seats : ℕ
@@ -37,7 +32,7 @@ abbrev pub on_sheet : ℕ → ℕ → ℕ → ℕ → ℕ → Bool
 on_sheet P Z s z p = nat_lt s P && (nat_lt z Z && nat_lt p products)
 
 abbrev pub within : ℕ → ℕ → ℕ → Place → Bool
-within P Z s w = on_sheet P Z s w.zone w.product && nat_lt w.hour max_hours
+within P Z s w = on_sheet P Z s w.zone.0 w.product.0 && nat_lt w.hour.0 max_hours
 
 abbrev pub framed : ℕ → ℕ → (ℕ → Place → Option ℕ) → Table
 framed P Z f = record { seats = P; zones = Z; cell = λ s w. cond (within P Z s w) (f s w) None }
@@ -81,7 +76,7 @@ pub record Bounded (t : Table) : Type 0 where
 
 -- two seats and one zone; seat 0 holds 7 and seat 1 holds 5, which is blank in hour 3
 abbrev example : Table
-example = framed 2 1 (λ s w. cond (nat_lt s 1) (Some 7) (cond (nat_lt w.hour 3) (Some 5) None))
+example = framed 2 1 (λ s w. cond (nat_lt s 1) (Some 7) (cond (nat_lt w.hour.0 3) (Some 5) None))
 
 sum : total_at example (at 0 1 2) ≡ Some 12
 sum = refl

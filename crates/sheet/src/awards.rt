@@ -7,9 +7,10 @@ ghost use Rattle.sheet.specs.Frames.{framed_bounded};
 ghost use Rattle.sheet.specs.Readings.{spot_below};
 
 use crate::faults::SheetFault;
+use crate::places::Place;
 use crate::sheets::{MAX_AWARD, Sheet};
 use crate::size::SheetSize;
-use figures::{Hour, Kw, Product, Seat, Zone};
+use figures::{Kw, Product, Seat, Zone};
 
 // Room for the awards of 16 seats, 4 zones and 2 products.
 const AWARDS: usize = 128;
@@ -18,8 +19,8 @@ const AWARDS: usize = 128;
 #[derive(Drop)]
 pub struct AwardSheet {
     size: SheetSize,
+    // One row, since an array of arrays would ask for three bounds at each award and want no less room.
     awards: [Option<Kw>; AWARDS],
-    ghost long: { length awards ≡ 128 },
     ghost small: { (k : ℕ) → k < 128 → filled (kilowatts (slice_index_or awards k None)) ≤ max_award },
 }
 
@@ -42,7 +43,7 @@ impl AwardSheet {
         }
     }
 
-    // Enters an award of `kw` for every hour. Each cell takes one, and 0 kW is one.
+    // Enters an award of `kw` for every hour. Each cell takes one, and 0 kW is one. It has no hour, and so no `Place`.
     pub fn award(
         &mut self,
         seat: Seat,
@@ -58,12 +59,11 @@ impl AwardSheet {
         if !self.size.has(seat, zone, product) {
             return Err(SheetFault::NoCell);
         }
-        if kw.0 > MAX_AWARD {
+        if kw > MAX_AWARD {
             return Err(SheetFault::Figure);
         }
         let i = spot(seat, zone, product);
-        let earlier = self.awards[i];
-        if earlier.is_some() {
+        if self.awards[i].is_some() {
             return Err(SheetFault::Awarded);
         }
         self.awards[i] = Some(kw);
@@ -77,8 +77,8 @@ impl Sheet for AwardSheet {
     ghost lawful = { λ _. Unit {0} };
 
     ghost bounded = { λ x ok.
-        framed_bounded x.size.seats x.size.zones (λ s w. Some (held_at x.awards s w.zone w.product)) x.size.sized (λ s w e.
-        x.small (spot_of s w.zone w.product) (spot_below x.size.seats x.size.zones s w x.size.sized e)) };
+        framed_bounded x.size.seats x.size.zones (λ s w. Some (held_at x.awards s w.zone.0 w.product.0)) x.size.sized (λ s w e.
+        x.small (spot_of s w.zone.0 w.product.0) (spot_below x.size.seats x.size.zones s w x.size.sized e)) };
 
     fn seats(&self) -> u8 {
         self.size.seats
@@ -88,13 +88,11 @@ impl Sheet for AwardSheet {
         self.size.zones
     }
 
-    fn cell(&self, seat: Seat, zone: Zone, product: Product, hour: Hour) -> Option<Kw> {
-        if !self.size.has_cell(seat, zone, product, hour) {
+    fn cell(&self, seat: Seat, place: Place) -> Option<Kw> {
+        if !self.size.has_cell(seat, place) {
             return None;
         }
-        match self.awards[spot(seat, zone, product)] {
-            Some(kw) => Some(kw),
-            None => Some(Kw(0)),
-        }
+        let award = self.awards[spot(seat, place.zone, place.product)];
+        Some(award.unwrap_or(Kw(0)))
     }
 }

@@ -11,17 +11,10 @@ pub trait Column {
 }
 
 // A column that its owner lends.
-#[derive(Clone, Copy)]
-pub struct Lent<'a>(pub &'a [u32]);
-
-impl<'a> Column for Lent<'a> {
-    ghost numbers = { λ x. x.0.now };
+impl<'a> Column for &'a [u32] {
+    ghost numbers = { λ x. x.now };
 
     fn number(&self, place: usize) -> Option<u32> {
-        if place < self.0.len() {
-            Some(self.0[place])
-        } else {
-            None
-        }
+        self.get(place).copied()
     }
 }

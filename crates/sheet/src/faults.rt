@@ -16,11 +16,11 @@ pub enum SheetFault {
     Awarded,
 }
 
-impl SheetFault {
-    pub fn ground(self) -> Ground
-        ensures { result ≡ ground_of self }
-    {
-        let number = match self {
+impl From<SheetFault> for Ground {
+    ghost from_gives = { λ e g. g ≡ ground_of e };
+
+    fn from(fault: SheetFault) -> Ground {
+        let number = match fault {
             SheetFault::Size => 5,
             SheetFault::NoCell => 6,
             SheetFault::Figure => 7,

@@ -1,14 +1,15 @@
 ghost use Rattle.std.specs.Prelude.{◌≡◌};
 ghost use Rattle.sheet.specs.Hourly.{hourly_table, row_of, reading};
-ghost use Rattle.sheet.specs.Tables.{at, kilowatts};
+ghost use Rattle.sheet.specs.Tables.{kilowatts};
 ghost use Rattle.std.specs.List.{slice_get};
 ghost use Rattle.sheet.specs.Frames.{framed_bounded};
 ghost use Rattle.sheet.specs.Readings.{reading-le};
 
 use crate::columns::Column;
+use crate::places::Place;
 use crate::sheets::{MAX_AWARD, Sheet};
 use crate::size::SheetSize;
-use figures::{Hour, Kw, PRODUCTS, Product, Seat, Zone};
+use figures::{Kw, PRODUCTS, Seat};
 
 // What each seat owes hour by hour, read from a column in the order hour, seat, zone, product, the last fastest.
 // A number above the limit is a blank, and so is a place beyond the column's end.
@@ -31,20 +32,17 @@ impl<C: Column> HourlySheet<C> {
 fn reading_of(number: Option<u32>) -> Option<Kw>
     ensures { kilowatts result ≡ reading number }
 {
-    match number {
-        Some(kw) if kw <= MAX_AWARD => Some(Kw(kw)),
-        _ => None,
-    }
+    number.map(Kw).filter(|kw| *kw <= MAX_AWARD)
 }
 
 impl SheetSize {
     // Where a column has the figure of a cell.
-    fn row(&self, seat: Seat, zone: Zone, product: Product, hour: Hour) -> usize
-        ensures { result ≡ row_of self.now.seats self.now.zones seat.0 (at zone.0 product.0 hour.0) }
+    fn row(&self, seat: Seat, place: Place) -> usize
+        ensures { result ≡ row_of self.now.seats self.now.zones seat.0 place }
     {
-        let by_seat = usize::from(hour.0) * usize::from(self.seats) + usize::from(seat.0);
-        let by_zone = by_seat * usize::from(self.zones) + usize::from(zone.0);
-        by_zone * usize::from(PRODUCTS) + usize::from(product.0)
+        let by_seat = usize::from(place.hour.0) * usize::from(self.seats) + usize::from(seat.0);
+        let by_zone = by_seat * usize::from(self.zones) + usize::from(place.zone.0);
+        by_zone * usize::from(PRODUCTS) + usize::from(place.product.0)
     }
 }
 
@@ -65,10 +63,10 @@ impl<C: Column> Sheet for HourlySheet<C> {
         self.size.zones
     }
 
-    fn cell(&self, seat: Seat, zone: Zone, product: Product, hour: Hour) -> Option<Kw> {
-        if !self.size.has_cell(seat, zone, product, hour) {
+    fn cell(&self, seat: Seat, place: Place) -> Option<Kw> {
+        if !self.size.has_cell(seat, place) {
             return None;
         }
-        reading_of(self.column.number(self.size.row(seat, zone, product, hour)))
+        reading_of(self.column.number(self.size.row(seat, place)))
     }
 }

@@ -1,12 +1,13 @@
 ghost use Rattle.std.specs.Prelude.{◌≡◌};
-ghost use Rattle.sheet.specs.Tables.{Table, Bounded, at, kilowatts, total_at};
+ghost use Rattle.sheet.specs.Tables.{Table, Bounded, kilowatts, total_at};
 
-use figures::{Hour, Kw, Product, Seat, Zone};
+use crate::places::Place;
+use figures::{Kw, Seat};
 
 // The most kW of an award, or of a figure by the hour.
-pub const MAX_AWARD: u32 = 1_000_000;
+pub const MAX_AWARD: Kw = Kw(1_000_000);
 // The most kW in one zone, product and hour, all seats together, and so of one trade there.
-pub const MAX_KW: u32 = 16_000_000;
+pub const MAX_KW: Kw = Kw(16_000_000);
 
 // Positions of seats: a table of cells, which may be asked and is not altered by asking.
 pub trait Sheet {
@@ -25,20 +26,18 @@ pub trait Sheet {
         ensures { lawful self.now → result ≡ (table self.now).zones };
 
     // What a seat holds; none where the cell is blank or the question is outside the table.
-    fn cell(&self, seat: Seat, zone: Zone, product: Product, hour: Hour) -> Option<Kw>
-        ensures { lawful self.now → kilowatts result ≡ (table self.now).cell seat.0 (at zone.0 product.0 hour.0) };
+    fn cell(&self, seat: Seat, place: Place) -> Option<Kw>
+        ensures { lawful self.now → kilowatts result ≡ (table self.now).cell seat.0 place };
 
     // What all seats hold together; none where the cell of one is blank.
-    fn total(&self, zone: Zone, product: Product, hour: Hour) -> Option<Kw>
-        ensures { lawful self.now → kilowatts result ≡ total_at (table self.now) (at zone.0 product.0 hour.0) }
+    fn total(&self, place: Place) -> Option<Kw>
+        ensures { lawful self.now → kilowatts result ≡ total_at (table self.now) place }
     {
         let seats = self.seats();
         let mut sum: u32 = 0;
+        // Each number is asked for, and no list is indexed: of a chain that sums into an Option nothing is known where it fails.
         for seat in 0..seats {
-            match self.cell(Seat(seat), zone, product, hour) {
-                Some(kw) => sum = sum.saturating_add(kw.0),
-                None => return None,
-            }
+            sum = sum.saturating_add(self.cell(Seat(seat), place)?.0);
         }
         Some(Kw(sum))
     }

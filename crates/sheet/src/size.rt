@@ -1,10 +1,11 @@
 ghost use Rattle.std.specs.Prelude.{◌≡◌, false, IfOk};
 ghost use Rattle.figures.specs.Grounds.{Judged};
 ghost use Rattle.sheet.specs.Faults.{missized, size_grounds};
-ghost use Rattle.sheet.specs.Tables.{at, on_sheet, within};
+ghost use Rattle.sheet.specs.Tables.{on_sheet, within};
 
 use crate::faults::SheetFault;
-use figures::{Hour, MAX_HOURS, MAX_SEATS, MAX_ZONES, PRODUCTS, Product, Seat, Zone};
+use crate::places::Place;
+use figures::{MAX_HOURS, MAX_SEATS, MAX_ZONES, PRODUCTS, Product, Seat, Zone};
 
 // How many seats and zones a sheet has, each within its limit.
 #[derive(Clone, Copy)]
@@ -33,9 +34,9 @@ impl SheetSize {
     }
 
     // Whether it has a cell there.
-    pub(crate) fn has_cell(&self, seat: Seat, zone: Zone, product: Product, hour: Hour) -> bool
-        ensures { result ≡ within self.now.seats self.now.zones seat.0 (at zone.0 product.0 hour.0) }
+    pub(crate) fn has_cell(&self, seat: Seat, place: Place) -> bool
+        ensures { result ≡ within self.now.seats self.now.zones seat.0 place }
     {
-        self.has(seat, zone, product) && hour.0 < MAX_HOURS
+        self.has(seat, place.zone, place.product) && place.hour.0 < MAX_HOURS
     }
 }

@@ -1,6 +1,7 @@
-use Rattle.std.proofs.Common.{drop}
-use Rattle.bill.proofs.Numbers.{Sofar}
+use Rattle.std.proofs.Common.{◌≡◌, ℕ, ◌-◌, ◌^◌, min, drop}
+use Rattle.bill.specs.Figures.{number_after}
 use Rattle.bill.proofs.fields.number.Given as goal
 
+-- what the digits so far write, which n carries, goes on to what they all write
 abbrev pub invariant-loop-b : goal.invariant-loop-b
-invariant-loop-b l = Sofar l.digits l.n (drop l.b-index l.digits)
+invariant-loop-b l = (exact : ℕ) × (l.n ≡ min exact (2 ^ 64 - 1)) × (number_after exact (drop l.b-index l.digits) ≡ number_after 0 l.digits)

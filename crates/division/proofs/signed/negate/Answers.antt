@@ -4,7 +4,7 @@ use Rattle.std.proofs.lemmas.List.{get_or_default}
 use Rattle.std.proofs.lemmas.Int.{ints}
 use Rattle.figures.specs.declared.units.Cents.{Cents}
 use Rattle.division.specs.Columns.{negated}
-use Rattle.division.proofs.Figures.{nothing, kept_at, all_written}
+use Rattle.division.proofs.Figures.{nothing, kept_at}
 use Rattle.division.proofs.signed.negate.Goals as goal
 
 -- the share that this turn comes to
@@ -15,9 +15,6 @@ share was out i lt e h =
     let p = h i lt in
     omega (arith, ints)
 
-pub overflow_sub-share : goal.overflow_sub-share
-overflow_sub-share c = let s = share c.args.out.now c.loop-share.out c.loop-share.share-index c.loop-share-test.true c.loop-share.invariant c.requires in omega (arith, ints)
-
 pub loop-share-preserved : goal.loop-share-preserved
 loop-share-preserved c =
     let i = c.loop-share.share-index in
@@ -27,6 +24,3 @@ loop-share-preserved c =
     ap (λ (z : ℤ). set c.loop-share.out i (record { 0 = z })) v
     ∙ map_over_more negated c.args.out.now c.loop-share.out i x c.loop-share-test.true c.loop-share.invariant
     (get_or_default c.loop-share.out i nothing x (omega arith))
-
-pub returns : goal.returns
-returns c = all_written negated c.args.out.now c.loop-share.out c.loop-share.share-index c.loop-share-test.false c.loop-share.invariant

@@ -1,7 +1,6 @@
 use Rattle.std.proofs.Common.{vec_items, sym, ◌∙◌}
-use Rattle.sheet.specs.Tables.{at}
 use Rattle.book.specs.Totals.{over_total}
 use Rattle.book.proofs.books.BookSheet.total.Goals as goal
 
 pub returns : goal.returns
-returns g c ok = c.total.ensures ok.under ∙ sym (over_total (g.S.Sheet.table c.args.self.now.below) (vec_items c.args.self.now.trades) (at c.args.zone.0 c.args.product.0 c.args.hour.0) ok.trades)
+returns g c ok = c.total.ensures ok.under ∙ sym (over_total (g.S.Sheet.table c.args.self.now.below) (vec_items c.args.self.now.trades) c.args.place ok.trades)

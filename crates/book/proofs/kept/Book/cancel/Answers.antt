@@ -1,55 +1,17 @@
-use Rattle.std.proofs.Common.{◌≡◌, ℕ, ◌<◌, List, length, get_or, Some, None, vec_items, ap, ◌∙◌, subst}
+use Rattle.std.proofs.Common.{List, Ok, vec_items, refl}
 use Rattle.std.proofs.lemmas.Result.{err_from_is_err_and}
-use Rattle.std.proofs.lemmas.Bool.{ltb-true}
-use Rattle.std.specs.List.{remove}
-use Rattle.figures.specs.Grounds.{first_of}
-use Rattle.book.specs.declared.faults.BookFault.TheVariants.{NoTrade}
+use Rattle.sheet.specs.Tables.{Table}
+use Rattle.book.specs.declared.deals.Deal.TheVariants.{Done}
 use Rattle.book.specs.declared.trades.Trade.{Trade}
-use Rattle.book.specs.Trades.{no_trade, over}
-use Rattle.book.specs.Deals.{index_of, trade_of, known_grounds, undo_grounds, cancel_answer, cancelled_in}
-use Rattle.book.proofs.Calls.{denied_first, denied_later, accepted, denied_call, done_call}
-use Rattle.book.proofs.Stays.{cancel_stays}
+use Rattle.book.specs.Trades.{over}
+use Rattle.book.specs.Deals.{trade_of, known_grounds, undo_grounds, cancelled_in, cancel_answer, cancel_answer_from}
+use Rattle.book.proofs.Calls.{plain, only_done, same_call}
 use Rattle.book.proofs.kept.Book.cancel.Goals as goal
 
-pub returns-in_default : goal.returns-in_default
-returns-in_default g c =
-    let b = c.args.self.now in
-    let n = c.args.number.0 in
-    let t = g.S.Sheet.table b.below in
-    let rs = vec_items b.trades in
-    let gs = known_grounds rs n in
-    let hs = undo_grounds (over t rs) (trade_of rs n) in
-    let none : first_of gs ≡ Some NoTrade = rw c.in_default.ensures in
-    denied_call g.S.Sheet.table g.S.Sheet.lawful (cancel_answer n) (λ (xs : List Trade). cancelled_in xs n) b NoTrade (λ ok. denied_first gs hs NoTrade none)
-
-pub returns-in_err-spares : goal.returns-in_err-spares
-returns-in_err-spares g c =
+pub returns-in_err-cancel_from : goal.returns-in_err-cancel_from
+returns-in_err-cancel_from g c =
     let p = err_from_is_err_and c.from_residual.result c.from_residual.ensures.1 in
-    let b = c.args.self.now in
-    let n = c.args.number.0 in
-    let t = g.S.Sheet.table b.below in
-    let rs = vec_items b.trades in
-    let gs = known_grounds rs n in
-    let hs = undo_grounds (over t rs) (trade_of rs n) in
-    let found = c.in-Some.ensures in
-    let known : first_of gs ≡ None = rw found.1 in
-    let is : c.trade_at-trade.result ≡ trade_of rs n = c.trade_at-trade.ensures.is ∙ ap (λ (k : ℕ). get_or rs k no_trade) found.0 in
-    let e = c.in_err-spares.field-0.0 in
-    rw (p.1, p.2) (denied_call g.S.Sheet.table g.S.Sheet.lawful (cancel_answer n) (λ (xs : List Trade). cancelled_in xs n) b e (λ ok. denied_later gs hs e known (subst (λ (r : Trade). first_of (undo_grounds (over t rs) r) ≡ Some e) is (c.in_err-spares.ensures ok))))
+    rw (p.1, p.2) (same_call g.S.Sheet.table g.S.Sheet.lawful (cancel_answer_from 0 c.args.number.0) (cancel_answer c.args.number.0) (λ (rs : List Trade). cancelled_in rs c.args.number.0) c.args.self.now _ _ _ (λ (t : Table) (rs : List Trade). plain (known_grounds rs c.args.number.0) (undo_grounds (over t rs) (trade_of rs c.args.number.0)) (trade_of rs c.args.number.0).offer) refl c.in_err-cancel_from.ensures.call)
 
 pub returns : goal.returns
-returns g c =
-    let b = c.args.self.now in
-    let n = c.args.number.0 in
-    let t = g.S.Sheet.table b.below in
-    let rs = vec_items b.trades in
-    let gs = known_grounds rs n in
-    let hs = undo_grounds (over t rs) (trade_of rs n) in
-    let found = c.in-Some.ensures in
-    let known : first_of gs ≡ None = rw found.1 in
-    let is : c.trade_at-trade.result ≡ trade_of rs n = c.trade_at-trade.ensures.is ∙ ap (λ (k : ℕ). get_or rs k no_trade) found.0 in
-    let lt : index_of rs n < length rs = ltb-true (index_of rs n) (length rs) found.1 in
-    let items = c.strike.ensures.trades ∙ ap (λ (k : ℕ). remove rs k) found.0 in
-    done_call g.S.Sheet.table g.S.Sheet.lawful (cancel_answer n) (λ (xs : List Trade). cancelled_in xs n) b c.strike.new.self c.strike.ensures.below items (λ ok.
-    let none = subst (λ (r : Trade). first_of (undo_grounds (over t rs) r) ≡ None) is (c.in_ok-spares.ensures ok) in
-    (accepted gs hs known none, cancel_stays t rs n lt ok.trades none))
+returns g c = same_call g.S.Sheet.table g.S.Sheet.lawful (cancel_answer_from 0 c.args.number.0) (cancel_answer c.args.number.0) (λ (rs : List Trade). cancelled_in rs c.args.number.0) c.args.self.now _ (Ok Done) _ (λ (t : Table) (rs : List Trade). plain (known_grounds rs c.args.number.0) (undo_grounds (over t rs) (trade_of rs c.args.number.0)) (trade_of rs c.args.number.0).offer) (only_done _ (trade_of (vec_items c.args.self.now.trades) c.args.number.0).offer c.in_ok-cancel_from.ensures.held) c.in_ok-cancel_from.ensures.call

@@ -1,71 +1,63 @@
-use Rattle.std.proofs.Common.{◌≡◌, ℕ, ◌<◌, List, length, get_or, Some, None, vec_items, sym, ap, ◌∙◌, subst}
+use Rattle.std.proofs.Common.{◌≡◌, ℕ, Bool, List, Some, None, vec_items, ap, ◌∙◌, subst}
 use Rattle.std.proofs.lemmas.Result.{err_from_is_err_and}
-use Rattle.std.proofs.lemmas.Bool.{ltb-true, lt-ltb, le-ltb}
 use Rattle.std.specs.List.{remove}
 use Rattle.figures.specs.Grounds.{first_of}
-use Rattle.book.specs.declared.faults.BookFault.TheVariants.{NoTrade}
+use Rattle.sheet.specs.Tables.{Table}
+use Rattle.book.specs.declared.faults.BookFault.{BookFault}
 use Rattle.book.specs.declared.trades.Trade.{Trade}
-use Rattle.book.specs.Trades.{no_trade, over}
-use Rattle.book.specs.Deals.{index_of, trade_of, known_grounds, undo_grounds, cancel_answer_from, cancelled_in, begins_before}
-use Rattle.book.proofs.Calls.{denied_first_from, held_from, denied_later_from, accepted_from, denied_call, held_call, done_call}
+use Rattle.book.specs.Trades.{over}
+use Rattle.book.specs.Deals.{trade_of, known_grounds, undo_grounds, cancelled_in, begins_before}
+use Rattle.book.proofs.Calls.{begun, denied_at_first, held_back, denied_at_rest, done}
 use Rattle.book.proofs.Stays.{cancel_stays}
 use Rattle.book.proofs.kept.Book.cancel_from.Goals as goal
 
-pub returns-in_default : goal.returns-in_default
-returns-in_default g c =
-    let b = c.args.self.now in
-    let n = c.args.number.0 in
-    let t = g.S.Sheet.table b.below in
-    let rs = vec_items b.trades in
-    let gs = known_grounds rs n in
-    let hs = undo_grounds (over t rs) (trade_of rs n) in
-    let none : first_of gs ≡ Some NoTrade = rw c.in_default.ensures in
-    denied_call g.S.Sheet.table g.S.Sheet.lawful (cancel_answer_from c.args.from.0 n) (λ (xs : List Trade). cancelled_in xs n) b NoTrade (λ ok. denied_first_from gs hs (begins_before (trade_of rs n).offer c.args.from.0) NoTrade none)
+-- the grounds of a cancel before the layer above judges, and those after
+abbrev first : ℕ → Table → List Trade → List (Bool × BookFault)
+first n t rs = known_grounds rs n
 
-pub returns-then-trade-from : goal.returns-then-trade-from
-returns-then-trade-from g c =
-    let b = c.args.self.now in
-    let n = c.args.number.0 in
-    let t = g.S.Sheet.table b.below in
-    let rs = vec_items b.trades in
-    let gs = known_grounds rs n in
-    let hs = undo_grounds (over t rs) (trade_of rs n) in
-    let found = c.in-Some.ensures in
-    let known : first_of gs ≡ None = rw found.1 in
-    let is : c.trade_at-trade.result ≡ trade_of rs n = c.trade_at-trade.ensures.is ∙ ap (λ (k : ℕ). get_or rs k no_trade) found.0 in
-    let late = ap (λ (r : Trade). begins_before r.offer c.args.from.0) (sym is) ∙ lt-ltb c.trade_at-trade.result.offer.first.0 c.args.from.0 c.if-trade-from.true in
-    held_call g.S.Sheet.table g.S.Sheet.lawful (cancel_answer_from c.args.from.0 n) (λ (xs : List Trade). cancelled_in xs n) b (λ ok. held_from gs hs (begins_before (trade_of rs n).offer c.args.from.0) known late)
+abbrev rest : ℕ → Table → List Trade → List (Bool × BookFault)
+rest n t rs = undo_grounds (over t rs) (trade_of rs n)
 
-pub returns-in_err-spares : goal.returns-in_err-spares
-returns-in_err-spares g c =
+abbrev late : ℕ → ℕ → List Trade → Bool
+late n h rs = begins_before (trade_of rs n).offer h
+
+abbrev new : ℕ → List Trade → List Trade
+new n rs = cancelled_in rs n
+
+pub returns-in_err-found-clause-call : goal.returns-in_err-found-clause-call
+returns-in_err-found-clause-call g c =
     let p = err_from_is_err_and c.from_residual.result c.from_residual.ensures.1 in
-    let b = c.args.self.now in
     let n = c.args.number.0 in
-    let t = g.S.Sheet.table b.below in
-    let rs = vec_items b.trades in
-    let gs = known_grounds rs n in
-    let hs = undo_grounds (over t rs) (trade_of rs n) in
-    let found = c.in-Some.ensures in
-    let known : first_of gs ≡ None = rw found.1 in
-    let is : c.trade_at-trade.result ≡ trade_of rs n = c.trade_at-trade.ensures.is ∙ ap (λ (k : ℕ). get_or rs k no_trade) found.0 in
-    let early = ap (λ (r : Trade). begins_before r.offer c.args.from.0) (sym is) ∙ le-ltb c.trade_at-trade.result.offer.first.0 c.args.from.0 c.if-trade-from.false in
-    let e = c.in_err-spares.field-0.0 in
-    rw (p.1, p.2) (denied_call g.S.Sheet.table g.S.Sheet.lawful (cancel_answer_from c.args.from.0 n) (λ (xs : List Trade). cancelled_in xs n) b e (λ ok. denied_later_from gs hs (begins_before (trade_of rs n).offer c.args.from.0) e known early (subst (λ (r : Trade). first_of (undo_grounds (over t rs) r) ≡ Some e) is (c.in_err-spares.ensures ok))))
+    rw (p.1, p.2) (denied_at_first g.S.Sheet.table g.S.Sheet.lawful (first n) (rest n) (late n c.args.from.0) (new n) c.args.self.now c.in_err-found.field-0.0 (λ ok. c.in_err-found.ensures.judged))
 
-pub returns : goal.returns
-returns g c =
-    let b = c.args.self.now in
+pub returns-then-lt-clause-call : goal.returns-then-lt-clause-call
+returns-then-lt-clause-call g c =
     let n = c.args.number.0 in
+    let found = c.in_ok-found.ensures in
+    let is = begun _ _ c.args.from.0 _ (ap (λ (r : Trade). r.offer) found.found.trade) c.if-lt.ensures in
+    held_back g.S.Sheet.table g.S.Sheet.lawful (first n) (rest n) (late n c.args.from.0) (new n) c.args.self.now (λ ok. found.judged) is
+
+pub returns-in_err-spares-clause-call : goal.returns-in_err-spares-clause-call
+returns-in_err-spares-clause-call g c =
+    let p = err_from_is_err_and c.from_residual-in_err-spares.result c.from_residual-in_err-spares.ensures.1 in
+    let n = c.args.number.0 in
+    let b = c.args.self.now in
+    let found = c.in_ok-found.ensures in
+    let is = begun _ _ c.args.from.0 _ (ap (λ (r : Trade). r.offer) found.found.trade) c.if-lt.ensures in
+    let e = c.in_err-spares.field-0.0 in
+    let v = over (g.S.Sheet.table b.below) (vec_items b.trades) in
+    rw (p.1, p.2) (denied_at_rest g.S.Sheet.table g.S.Sheet.lawful (first n) (rest n) (late n c.args.from.0) (new n) b (λ ok. found.judged) is e (λ ok. subst (λ (r : Trade). first_of (undo_grounds v r) ≡ Some e) found.found.trade (c.in_err-spares.ensures ok)))
+
+pub returns-clause-call : goal.returns-clause-call
+returns-clause-call g c =
+    let n = c.args.number.0 in
+    let b = c.args.self.now in
     let t = g.S.Sheet.table b.below in
     let rs = vec_items b.trades in
-    let gs = known_grounds rs n in
-    let hs = undo_grounds (over t rs) (trade_of rs n) in
-    let found = c.in-Some.ensures in
-    let known : first_of gs ≡ None = rw found.1 in
-    let is : c.trade_at-trade.result ≡ trade_of rs n = c.trade_at-trade.ensures.is ∙ ap (λ (k : ℕ). get_or rs k no_trade) found.0 in
-    let early = ap (λ (r : Trade). begins_before r.offer c.args.from.0) (sym is) ∙ le-ltb c.trade_at-trade.result.offer.first.0 c.args.from.0 c.if-trade-from.false in
-    let lt : index_of rs n < length rs = ltb-true (index_of rs n) (length rs) found.1 in
-    let items = c.strike.ensures.trades ∙ ap (λ (k : ℕ). remove rs k) found.0 in
-    done_call g.S.Sheet.table g.S.Sheet.lawful (cancel_answer_from c.args.from.0 n) (λ (xs : List Trade). cancelled_in xs n) b c.strike.new.self c.strike.ensures.below items (λ ok.
-    let none = subst (λ (r : Trade). first_of (undo_grounds (over t rs) r) ≡ None) is (c.in_ok-spares.ensures ok) in
-    (accepted_from gs hs (begins_before (trade_of rs n).offer c.args.from.0) known early none, cancel_stays t rs n lt ok.trades none))
+    let found = c.in_ok-found.ensures in
+    let is = begun _ _ c.args.from.0 _ (ap (λ (r : Trade). r.offer) found.found.trade) c.if-lt.ensures in
+    let items = c.strike.ensures.trades ∙ ap (remove rs) found.found.index in
+    done g.S.Sheet.table g.S.Sheet.lawful (first n) (rest n) (late n c.args.from.0) (new n) b (λ ok. found.judged) is
+    (λ ok. subst (λ (r : Trade). first_of (undo_grounds (over t rs) r) ≡ None) found.found.trade (c.in_ok-spares.ensures ok))
+    c.strike.new.self c.strike.ensures.below items
+    (λ ok. cancel_stays t rs n found.found.here ok.trades (subst (λ (r : Trade). first_of (undo_grounds (over t rs) r) ≡ None) found.found.trade (c.in_ok-spares.ensures ok)))

@@ -1,53 +1,17 @@
-use Rattle.std.proofs.Common.{◌≡◌, ℕ, ◌<◌, List, length, get_or, set, Some, None, vec_items, ap, ◌∙◌, subst}
+use Rattle.std.proofs.Common.{List, Ok, vec_items, refl}
 use Rattle.std.proofs.lemmas.Result.{err_from_is_err_and}
-use Rattle.figures.specs.Grounds.{first_of}
+use Rattle.sheet.specs.Tables.{Table}
+use Rattle.book.specs.declared.deals.Deal.TheVariants.{Done}
 use Rattle.book.specs.declared.trades.Trade.{Trade}
-use Rattle.book.specs.declared.trades.TradeState.TheVariants.{Offered}
-use Rattle.book.specs.Trades.{no_trade, confirmed, over}
-use Rattle.book.specs.Deals.{index_of, trade_of, find_grounds, cover_grounds, confirm_answer, confirmed_in}
-use Rattle.book.proofs.Calls.{denied_first, denied_later, accepted, denied_call, done_call}
-use Rattle.book.proofs.Stays.{confirm_stays}
+use Rattle.book.specs.Trades.{over}
+use Rattle.book.specs.Deals.{trade_of, find_grounds, cover_grounds, confirmed_in, confirm_answer, confirm_answer_from}
+use Rattle.book.proofs.Calls.{plain, only_done, same_call}
 use Rattle.book.proofs.kept.Book.confirm.Goals as goal
 
-pub returns-in_err-index : goal.returns-in_err-index
-returns-in_err-index g c =
+pub returns-in_err-confirm_from : goal.returns-in_err-confirm_from
+returns-in_err-confirm_from g c =
     let p = err_from_is_err_and c.from_residual.result c.from_residual.ensures.1 in
-    let b = c.args.self.now in
-    let n = c.args.number.0 in
-    let t = g.S.Sheet.table b.below in
-    let rs = vec_items b.trades in
-    let gs = find_grounds t rs n c.args.seat.0 in
-    let hs = cover_grounds (over t rs) (trade_of rs n).offer in
-    let e = c.in_err-index.field-0.0 in
-    rw (p.1, p.2) (denied_call g.S.Sheet.table g.S.Sheet.lawful (confirm_answer n c.args.seat.0) (λ (xs : List Trade). confirmed_in xs n) b e (λ ok. denied_first gs hs e (c.in_err-index.ensures.judged ok)))
-
-pub returns-in_err-check_cover : goal.returns-in_err-check_cover
-returns-in_err-check_cover g c =
-    let p = err_from_is_err_and c.from_residual-in_err-check_cover.result c.from_residual-in_err-check_cover.ensures.1 in
-    let b = c.args.self.now in
-    let n = c.args.number.0 in
-    let t = g.S.Sheet.table b.below in
-    let rs = vec_items b.trades in
-    let gs = find_grounds t rs n c.args.seat.0 in
-    let hs = cover_grounds (over t rs) (trade_of rs n).offer in
-    let found = c.in_ok-index.ensures.found in
-    let is : c.trade_at.result ≡ trade_of rs n = c.trade_at.ensures.is ∙ ap (λ (k : ℕ). get_or rs k no_trade) found.0 in
-    let e = c.in_err-check_cover.field-0.0 in
-    rw (p.1, p.2) (denied_call g.S.Sheet.table g.S.Sheet.lawful (confirm_answer n c.args.seat.0) (λ (xs : List Trade). confirmed_in xs n) b e (λ ok. denied_later gs hs e (c.in_ok-index.ensures.judged ok) (subst (λ (r : Trade). first_of (cover_grounds (over t rs) r.offer) ≡ Some e) is (c.in_err-check_cover.ensures ok))))
+    rw (p.1, p.2) (same_call g.S.Sheet.table g.S.Sheet.lawful (confirm_answer_from 0 c.args.number.0 c.args.seat.0) (confirm_answer c.args.number.0 c.args.seat.0) (λ (rs : List Trade). confirmed_in rs c.args.number.0) c.args.self.now _ _ _ (λ (t : Table) (rs : List Trade). plain (find_grounds t rs c.args.number.0 c.args.seat.0) (cover_grounds (over t rs) (trade_of rs c.args.number.0).offer) (trade_of rs c.args.number.0).offer) refl c.in_err-confirm_from.ensures.call)
 
 pub returns : goal.returns
-returns g c =
-    let b = c.args.self.now in
-    let n = c.args.number.0 in
-    let t = g.S.Sheet.table b.below in
-    let rs = vec_items b.trades in
-    let gs = find_grounds t rs n c.args.seat.0 in
-    let hs = cover_grounds (over t rs) (trade_of rs n).offer in
-    let found = c.in_ok-index.ensures.found in
-    let is : c.trade_at.result ≡ trade_of rs n = c.trade_at.ensures.is ∙ ap (λ (k : ℕ). get_or rs k no_trade) found.0 in
-    let lt : index_of rs n < length rs = subst (λ (k : ℕ). k < length rs) found.0 found.1 in
-    let offered = subst (λ (k : ℕ). (get_or rs k no_trade).state ≡ Offered) found.0 found.2 in
-    let items = c.stand.ensures.trades ∙ ap (λ (k : ℕ). set rs k (confirmed (get_or rs k no_trade))) found.0 in
-    done_call g.S.Sheet.table g.S.Sheet.lawful (confirm_answer n c.args.seat.0) (λ (xs : List Trade). confirmed_in xs n) b c.stand.new.self c.stand.ensures.below items (λ ok.
-    let none = subst (λ (r : Trade). first_of (cover_grounds (over t rs) r.offer) ≡ None) is (c.in_ok-check_cover.ensures ok) in
-    (accepted gs hs (c.in_ok-index.ensures.judged ok) none, confirm_stays t rs n lt ok.trades offered none))
+returns g c = same_call g.S.Sheet.table g.S.Sheet.lawful (confirm_answer_from 0 c.args.number.0 c.args.seat.0) (confirm_answer c.args.number.0 c.args.seat.0) (λ (rs : List Trade). confirmed_in rs c.args.number.0) c.args.self.now _ (Ok Done) _ (λ (t : Table) (rs : List Trade). plain (find_grounds t rs c.args.number.0 c.args.seat.0) (cover_grounds (over t rs) (trade_of rs c.args.number.0).offer) (trade_of rs c.args.number.0).offer) (only_done _ (trade_of (vec_items c.args.self.now.trades) c.args.number.0).offer c.in_ok-confirm_from.ensures.held) c.in_ok-confirm_from.ensures.call

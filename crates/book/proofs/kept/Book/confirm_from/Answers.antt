@@ -1,69 +1,64 @@
-use Rattle.std.proofs.Common.{◌≡◌, ℕ, ◌<◌, List, length, get_or, set, Some, None, vec_items, sym, ap, ◌∙◌, subst}
+use Rattle.std.proofs.Common.{◌≡◌, ℕ, Bool, List, get_or, set, Some, None, vec_items, ap, ◌∙◌, subst}
 use Rattle.std.proofs.lemmas.Result.{err_from_is_err_and}
-use Rattle.std.proofs.lemmas.Bool.{lt-ltb, le-ltb}
 use Rattle.figures.specs.Grounds.{first_of}
+use Rattle.sheet.specs.Tables.{Table}
+use Rattle.book.specs.declared.faults.BookFault.{BookFault}
 use Rattle.book.specs.declared.trades.Trade.{Trade}
 use Rattle.book.specs.declared.trades.TradeState.TheVariants.{Offered}
 use Rattle.book.specs.Trades.{no_trade, confirmed, over}
-use Rattle.book.specs.Deals.{index_of, trade_of, find_grounds, cover_grounds, confirm_answer_from, confirmed_in, begins_before}
-use Rattle.book.proofs.Calls.{denied_first_from, held_from, denied_later_from, accepted_from, denied_call, held_call, done_call}
+use Rattle.book.specs.Deals.{trade_of, find_grounds, cover_grounds, confirmed_in, begins_before}
+use Rattle.book.proofs.Calls.{begun, denied_at_first, held_back, denied_at_rest, done}
 use Rattle.book.proofs.Stays.{confirm_stays}
 use Rattle.book.proofs.kept.Book.confirm_from.Goals as goal
 
-pub returns-in_err-index : goal.returns-in_err-index
-returns-in_err-index g c =
+-- the grounds of a confirm before the layer above judges, and those after
+abbrev first : ℕ → ℕ → Table → List Trade → List (Bool × BookFault)
+first n s t rs = find_grounds t rs n s
+
+abbrev rest : ℕ → Table → List Trade → List (Bool × BookFault)
+rest n t rs = cover_grounds (over t rs) (trade_of rs n).offer
+
+abbrev late : ℕ → ℕ → List Trade → Bool
+late n h rs = begins_before (trade_of rs n).offer h
+
+abbrev new : ℕ → List Trade → List Trade
+new n rs = confirmed_in rs n
+
+pub returns-in_err-found-clause-call : goal.returns-in_err-found-clause-call
+returns-in_err-found-clause-call g c =
     let p = err_from_is_err_and c.from_residual.result c.from_residual.ensures.1 in
-    let b = c.args.self.now in
     let n = c.args.number.0 in
-    let t = g.S.Sheet.table b.below in
-    let rs = vec_items b.trades in
-    let gs = find_grounds t rs n c.args.seat.0 in
-    let hs = cover_grounds (over t rs) (trade_of rs n).offer in
-    let e = c.in_err-index.field-0.0 in
-    rw (p.1, p.2) (denied_call g.S.Sheet.table g.S.Sheet.lawful (confirm_answer_from c.args.from.0 n c.args.seat.0) (λ (xs : List Trade). confirmed_in xs n) b e (λ ok. denied_first_from gs hs (begins_before (trade_of rs n).offer c.args.from.0) e (c.in_err-index.ensures.judged ok)))
+    rw (p.1, p.2) (denied_at_first g.S.Sheet.table g.S.Sheet.lawful (first n c.args.seat.0) (rest n) (late n c.args.from.0) (new n) c.args.self.now c.in_err-found.field-0.0 c.in_err-found.ensures.judged)
 
-pub returns-then-offer-from : goal.returns-then-offer-from
-returns-then-offer-from g c =
-    let b = c.args.self.now in
+pub returns-then-lt-clause-call : goal.returns-then-lt-clause-call
+returns-then-lt-clause-call g c =
     let n = c.args.number.0 in
-    let t = g.S.Sheet.table b.below in
-    let rs = vec_items b.trades in
-    let gs = find_grounds t rs n c.args.seat.0 in
-    let hs = cover_grounds (over t rs) (trade_of rs n).offer in
-    let found = c.in_ok-index.ensures.found in
-    let is : c.trade_at.result ≡ trade_of rs n = c.trade_at.ensures.is ∙ ap (λ (k : ℕ). get_or rs k no_trade) found.0 in
-    let late = ap (λ (r : Trade). begins_before r.offer c.args.from.0) (sym is) ∙ lt-ltb c.trade_at.result.offer.first.0 c.args.from.0 c.if-offer-from.true in
-    held_call g.S.Sheet.table g.S.Sheet.lawful (confirm_answer_from c.args.from.0 n c.args.seat.0) (λ (xs : List Trade). confirmed_in xs n) b (λ ok. held_from gs hs (begins_before (trade_of rs n).offer c.args.from.0) (c.in_ok-index.ensures.judged ok) late)
+    let found = c.in_ok-found.ensures in
+    let is = begun _ _ c.args.from.0 _ (ap (λ (r : Trade). r.offer) found.found.0.trade) c.if-lt.ensures in
+    held_back g.S.Sheet.table g.S.Sheet.lawful (first n c.args.seat.0) (rest n) (late n c.args.from.0) (new n) c.args.self.now found.judged is
 
-pub returns-in_err-check_cover : goal.returns-in_err-check_cover
-returns-in_err-check_cover g c =
+pub returns-in_err-check_cover-clause-call : goal.returns-in_err-check_cover-clause-call
+returns-in_err-check_cover-clause-call g c =
     let p = err_from_is_err_and c.from_residual-in_err-check_cover.result c.from_residual-in_err-check_cover.ensures.1 in
-    let b = c.args.self.now in
     let n = c.args.number.0 in
-    let t = g.S.Sheet.table b.below in
-    let rs = vec_items b.trades in
-    let gs = find_grounds t rs n c.args.seat.0 in
-    let hs = cover_grounds (over t rs) (trade_of rs n).offer in
-    let found = c.in_ok-index.ensures.found in
-    let is : c.trade_at.result ≡ trade_of rs n = c.trade_at.ensures.is ∙ ap (λ (k : ℕ). get_or rs k no_trade) found.0 in
-    let early = ap (λ (r : Trade). begins_before r.offer c.args.from.0) (sym is) ∙ le-ltb c.trade_at.result.offer.first.0 c.args.from.0 c.if-offer-from.false in
+    let b = c.args.self.now in
+    let found = c.in_ok-found.ensures in
+    let is = begun _ _ c.args.from.0 _ (ap (λ (r : Trade). r.offer) found.found.0.trade) c.if-lt.ensures in
     let e = c.in_err-check_cover.field-0.0 in
-    rw (p.1, p.2) (denied_call g.S.Sheet.table g.S.Sheet.lawful (confirm_answer_from c.args.from.0 n c.args.seat.0) (λ (xs : List Trade). confirmed_in xs n) b e (λ ok. denied_later_from gs hs (begins_before (trade_of rs n).offer c.args.from.0) e (c.in_ok-index.ensures.judged ok) early (subst (λ (r : Trade). first_of (cover_grounds (over t rs) r.offer) ≡ Some e) is (c.in_err-check_cover.ensures ok))))
+    let v = over (g.S.Sheet.table b.below) (vec_items b.trades) in
+    rw (p.1, p.2) (denied_at_rest g.S.Sheet.table g.S.Sheet.lawful (first n c.args.seat.0) (rest n) (late n c.args.from.0) (new n) b found.judged is e (λ ok. subst (λ (r : Trade). first_of (cover_grounds v r.offer) ≡ Some e) found.found.0.trade (c.in_err-check_cover.ensures ok)))
 
-pub returns : goal.returns
-returns g c =
-    let b = c.args.self.now in
+pub returns-clause-call : goal.returns-clause-call
+returns-clause-call g c =
     let n = c.args.number.0 in
+    let b = c.args.self.now in
     let t = g.S.Sheet.table b.below in
     let rs = vec_items b.trades in
-    let gs = find_grounds t rs n c.args.seat.0 in
-    let hs = cover_grounds (over t rs) (trade_of rs n).offer in
-    let found = c.in_ok-index.ensures.found in
-    let is : c.trade_at.result ≡ trade_of rs n = c.trade_at.ensures.is ∙ ap (λ (k : ℕ). get_or rs k no_trade) found.0 in
-    let early = ap (λ (r : Trade). begins_before r.offer c.args.from.0) (sym is) ∙ le-ltb c.trade_at.result.offer.first.0 c.args.from.0 c.if-offer-from.false in
-    let lt : index_of rs n < length rs = subst (λ (k : ℕ). k < length rs) found.0 found.1 in
-    let offered = subst (λ (k : ℕ). (get_or rs k no_trade).state ≡ Offered) found.0 found.2 in
-    let items = c.stand.ensures.trades ∙ ap (λ (k : ℕ). set rs k (confirmed (get_or rs k no_trade))) found.0 in
-    done_call g.S.Sheet.table g.S.Sheet.lawful (confirm_answer_from c.args.from.0 n c.args.seat.0) (λ (xs : List Trade). confirmed_in xs n) b c.stand.new.self c.stand.ensures.below items (λ ok.
-    let none = subst (λ (r : Trade). first_of (cover_grounds (over t rs) r.offer) ≡ None) is (c.in_ok-check_cover.ensures ok) in
-    (accepted_from gs hs (begins_before (trade_of rs n).offer c.args.from.0) (c.in_ok-index.ensures.judged ok) early none, confirm_stays t rs n lt ok.trades offered none))
+    let found = c.in_ok-found.ensures in
+    let is = begun _ _ c.args.from.0 _ (ap (λ (r : Trade). r.offer) found.found.0.trade) c.if-lt.ensures in
+    let items = c.stand.ensures.trades ∙ ap (λ (k : ℕ). set rs k (confirmed (get_or rs k no_trade))) found.found.0.index in
+    let offered = subst (λ (r : Trade). r.state ≡ Offered) found.found.0.trade found.found.1 in
+    done g.S.Sheet.table g.S.Sheet.lawful (first n c.args.seat.0) (rest n) (late n c.args.from.0) (new n) b found.judged is
+    (λ ok. subst (λ (r : Trade). first_of (cover_grounds (over t rs) r.offer) ≡ None) found.found.0.trade (c.in_ok-check_cover.ensures ok))
+    c.stand.new.self c.stand.ensures.below items
+    (λ ok. confirm_stays t rs n found.found.0.here ok.trades offered (subst (λ (r : Trade). first_of (cover_grounds (over t rs) r.offer) ≡ None) found.found.0.trade (c.in_ok-check_cover.ensures ok)))

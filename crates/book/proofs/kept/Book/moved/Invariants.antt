@@ -1,6 +1,5 @@
 use Rattle.std.proofs.Common.{◌≡◌, ◌*◌, ◌≤◌, take}
 use Rattle.sheet.specs.Limits.{max_kw}
-use Rattle.sheet.specs.Tables.{at}
 use Rattle.book.specs.Trades.{bought_at, sold_at}
 use Rattle.book.proofs.kept.Book.moved.Given as goal
 
@@ -8,5 +7,5 @@ abbrev pub invariant-loop-trade : goal.invariant-loop-trade
 invariant-loop-trade g l =
     (l.all.bought ≤ max_kw * l.trade-index)
     × (l.all.sold ≤ max_kw * l.trade-index)
-    × (l.all.bought ≡ bought_at l.seat.0 (at l.zone.0 l.product.0 l.hour.0) (take l.trade-index l.trade-items))
-    × (l.all.sold ≡ sold_at l.seat.0 (at l.zone.0 l.product.0 l.hour.0) (take l.trade-index l.trade-items))
+    × (l.all.bought ≡ bought_at l.seat.0 l.place (take l.trade-index l.trade-items))
+    × (l.all.sold ≡ sold_at l.seat.0 l.place (take l.trade-index l.trade-items))

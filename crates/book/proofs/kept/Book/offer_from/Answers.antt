@@ -1,34 +1,41 @@
-use Rattle.std.proofs.Common.{List, [], vec_items, refl}
+use Rattle.std.proofs.Common.{Bool, List, [], vec_items, refl}
 use Rattle.std.proofs.lemmas.Result.{err_from_is_err_and}
-use Rattle.std.proofs.lemmas.Bool.{lt-ltb, le-ltb}
+use Rattle.sheet.specs.Tables.{Table}
+use Rattle.book.specs.declared.faults.BookFault.{BookFault}
+use Rattle.book.specs.declared.trades.Offer.{Offer}
 use Rattle.book.specs.declared.trades.Trade.{Trade}
-use Rattle.book.specs.Deals.{offer_grounds, offer_answer_from, offered, begins_before}
+use Rattle.book.specs.Deals.{offer_grounds, offered, begins_before}
 use Rattle.book.proofs.Balances.{offer_keeps}
-use Rattle.book.proofs.Calls.{denied_first_from, held_from, accepted_from, offer_sound, denied_call, held_call, done_call}
+use Rattle.book.proofs.Calls.{begun, denied_at_first, held_back, done, offer_sound}
 use Rattle.book.proofs.kept.Book.offer_from.Goals as goal
 
-pub returns-in_err-admits : goal.returns-in_err-admits
-returns-in_err-admits g c =
+-- the grounds of an offer, all before the layer above judges
+abbrev first : Offer → Table → List Trade → List (Bool × BookFault)
+first o t rs = offer_grounds t rs o
+
+abbrev rest : Table → List Trade → List (Bool × BookFault)
+rest t rs = []
+
+abbrev new : Offer → List Trade → List Trade
+new o rs = offered rs o
+
+pub returns-in_err-admits-clause-call : goal.returns-in_err-admits-clause-call
+returns-in_err-admits-clause-call g c =
     let p = err_from_is_err_and c.from_residual.result c.from_residual.ensures.1 in
-    let b = c.args.self.now in
     let o = c.args.offer in
-    let gs = offer_grounds (g.S.Sheet.table b.below) (vec_items b.trades) o in
-    let e = c.in_err-admits.field-0.0 in
-    rw (p.1, p.2) (denied_call g.S.Sheet.table g.S.Sheet.lawful (offer_answer_from c.args.from.0 o) (λ (rs : List Trade). offered rs o) b e (λ ok. denied_first_from gs [] (begins_before o c.args.from.0) e (c.in_err-admits.ensures.judged ok)))
+    rw (p.1, p.2) (denied_at_first g.S.Sheet.table g.S.Sheet.lawful (first o) rest (λ _. begins_before o c.args.from.0) (new o) c.args.self.now c.in_err-admits.field-0.0 c.in_err-admits.ensures.judged)
 
-pub returns-then-offer-from : goal.returns-then-offer-from
-returns-then-offer-from g c =
-    let b = c.args.self.now in
+pub returns-then-lt-clause-call : goal.returns-then-lt-clause-call
+returns-then-lt-clause-call g c =
     let o = c.args.offer in
-    let gs = offer_grounds (g.S.Sheet.table b.below) (vec_items b.trades) o in
-    held_call g.S.Sheet.table g.S.Sheet.lawful (offer_answer_from c.args.from.0 o) (λ (rs : List Trade). offered rs o) b (λ ok. held_from gs [] (begins_before o c.args.from.0) (c.in_ok-admits.ensures.judged ok) (lt-ltb o.first.0 c.args.from.0 c.if-offer-from.true))
+    held_back g.S.Sheet.table g.S.Sheet.lawful (first o) rest (λ _. begins_before o c.args.from.0) (new o) c.args.self.now c.in_ok-admits.ensures.judged (begun o o c.args.from.0 _ refl c.if-lt.ensures)
 
-pub returns : goal.returns
-returns g c =
-    let b = c.args.self.now in
+pub returns-clause-call : goal.returns-clause-call
+returns-clause-call g c =
     let o = c.args.offer in
+    let b = c.args.self.now in
     let t = g.S.Sheet.table b.below in
     let rs = vec_items b.trades in
-    done_call g.S.Sheet.table g.S.Sheet.lawful (offer_answer_from c.args.from.0 o) (λ (xs : List Trade). offered xs o) b c.enter.new.self c.enter.ensures.below c.enter.ensures.trades (λ ok.
-    let none = c.in_ok-admits.ensures.judged ok in
-    (accepted_from (offer_grounds t rs o) [] (begins_before o c.args.from.0) none (le-ltb o.first.0 c.args.from.0 c.if-offer-from.false) refl, offer_keeps t rs o (offer_sound t rs o none) ok.trades))
+    let none = c.in_ok-admits.ensures.judged in
+    done g.S.Sheet.table g.S.Sheet.lawful (first o) rest (λ _. begins_before o c.args.from.0) (new o) b none (begun o o c.args.from.0 _ refl c.if-lt.ensures) (λ ok. refl)
+    c.enter.new.self c.enter.ensures.below c.enter.ensures.trades (λ ok. offer_keeps t rs o (offer_sound t rs o (none ok)) ok.trades)
