@@ -21,10 +21,3 @@ returns-in_err-cell g c ok =
     let f : ℕ → Option ℕ = λ s. t.cell s c.args.place in
     let lt : c.loop-seat.seat < t.seats = omega (arith, c.seats-seats.ensures ok, c.loop-seat-test.true) in
     ap kilowatts c.from_residual.ensures ∙ sym (added_blank f c.loop-seat.seat t.seats lt (sym (c.in_err-cell.ensures ok)))
-
-pub returns : goal.returns
-returns g c ok =
-    let t = g.Self.Sheet.table c.args.self.now in
-    let f : ℕ → Option ℕ = λ s. t.cell s c.args.place in
-    let e : c.loop-seat.seat ≡ t.seats = omega (arith, c.seats-seats.ensures ok) in
-    sym (c.loop-seat.invariant ok) ∙ ap (added_up f) e
