@@ -1,4 +1,8 @@
 // The units of the settlement, each a type of its own, so that none is taken for another.
+ghost use Rattle.std.specs.Prelude.{Some};
+ghost use Rattle.std.specs.Fmt.{signed_decimal};
+
+use std::fmt;
 
 // The most seats a month has.
 pub const MAX_SEATS: usize = 16;
@@ -17,6 +21,15 @@ pub struct Kw(pub u32);
 // Whole cents; below zero where money goes the other way.
 #[derive(Clone, Copy, PartialEq, Eq, PartialOrd, Ord, Debug)]
 pub struct Cents(pub i64);
+
+// The figure, with no unit, as statements have it.
+impl fmt::Display for Cents {
+    ghost output = { λ c. Some (signed_decimal c.0) };
+
+    fn fmt<W: fmt::Write>(&self, f: &mut fmt::Formatter<W>) -> fmt::Result {
+        write!(f, "{}", self.0)
+    }
+}
 
 // A price in cents for one MW and month.
 #[derive(Clone, Copy, PartialEq, Eq, PartialOrd, Ord, Debug)]
