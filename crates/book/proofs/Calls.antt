@@ -85,19 +85,19 @@ offer_sound t rs o q =
 
 module _ {S : Type 0} (table : S → Table) (lawful : S → Type 0) (answer : Table → List Trade → Result Deal BookFault) (new : List Trade → List Trade) (b : Book S) where
   adds : (c : Book S) → Lawful table lawful c → AddsUp table c
-  adds c ok = λ w. over_total (table c.below) (vec_items c.trades) w ok.trades
+  adds c ok = λ w. over_total (table c.below) (vec_items c.ledger.trades) w ok.trades
 
-  pub denied_call : (e : BookFault) → (Lawful table lawful b → Err e ≡ answer (table b.below) (vec_items b.trades)) → Called table lawful answer new b (Err e) b
+  pub denied_call : (e : BookFault) → (Lawful table lawful b → Err e ≡ answer (table b.below) (vec_items b.ledger.trades)) → Called table lawful answer new b (Err e) b
   denied_call e a = record { below = refl; trades = refl; unaltered = refl; answers = a; stays = λ ok. ok; adds_up = adds b }
 
-  pub held_call : (Lawful table lawful b → Ok Held ≡ answer (table b.below) (vec_items b.trades)) → Called table lawful answer new b (Ok Held) b
+  pub held_call : (Lawful table lawful b → Ok Held ≡ answer (table b.below) (vec_items b.ledger.trades)) → Called table lawful answer new b (Ok Held) b
   held_call a = record { below = refl; trades = refl; unaltered = refl; answers = a; stays = λ ok. ok; adds_up = adds b }
 
-  pub done_call : (c : Book S) → c.below ≡ b.below → vec_items c.trades ≡ new (vec_items b.trades) → (Lawful table lawful b → (Ok Done ≡ answer (table b.below) (vec_items b.trades)) × Balanced (table b.below) (new (vec_items b.trades))) → Called table lawful answer new b (Ok Done) c
+  pub done_call : (c : Book S) → c.below ≡ b.below → vec_items c.ledger.trades ≡ new (vec_items b.ledger.trades) → (Lawful table lawful b → (Ok Done ≡ answer (table b.below) (vec_items b.ledger.trades)) × Balanced (table b.below) (new (vec_items b.ledger.trades))) → Called table lawful answer new b (Ok Done) c
   done_call c s e k =
       let stays : Lawful table lawful b → Lawful table lawful c = λ ok. record {
         under = subst lawful (sym s) ok.under;
-        trades = subst (λ (x : S). Balanced (table x) (vec_items c.trades)) (sym s) (subst (λ (x : List Trade). Balanced (table b.below) x) (sym e) (k ok).1);
+        trades = subst (λ (x : S). Balanced (table x) (vec_items c.ledger.trades)) (sym s) (subst (λ (x : List Trade). Balanced (table b.below) x) (sym e) (k ok).1);
       } in
       record { below = s; trades = e; unaltered = tt; answers = λ ok. (k ok).0; stays = stays; adds_up = λ ok. adds c (stays ok) }
 
@@ -110,7 +110,7 @@ module _ {S : Type 0} (table : S → Table) (lawful : S → Type 0) (first rest 
   t = table b.below
 
   abbrev rs : List Trade
-  rs = vec_items b.trades
+  rs = vec_items b.ledger.trades
 
   pub denied_at_first : (e : BookFault) → (Lawful table lawful b → first_of (first t rs) ≡ Some e) → Called table lawful answer new b (Err e) b
   denied_at_first e q = denied_call table lawful answer new b e (λ ok. denied_first_from (first t rs) (rest t rs) (late rs) e (q ok))
@@ -122,7 +122,7 @@ module _ {S : Type 0} (table : S → Table) (lawful : S → Type 0) (first rest 
     pub denied_at_rest : late rs ≡ false → (e : BookFault) → (Lawful table lawful b → first_of (rest t rs) ≡ Some e) → Called table lawful answer new b (Err e) b
     denied_at_rest k e q = denied_call table lawful answer new b e (λ ok. denied_later_from (first t rs) (rest t rs) (late rs) e (pass ok) k (q ok))
 
-    pub done : late rs ≡ false → (Lawful table lawful b → first_of (rest t rs) ≡ None) → (c : Book S) → c.below ≡ b.below → vec_items c.trades ≡ new rs → (Lawful table lawful b → Balanced t (new rs)) → Called table lawful answer new b (Ok Done) c
+    pub done : late rs ≡ false → (Lawful table lawful b → first_of (rest t rs) ≡ None) → (c : Book S) → c.below ≡ b.below → vec_items c.ledger.trades ≡ new rs → (Lawful table lawful b → Balanced t (new rs)) → Called table lawful answer new b (Ok Done) c
     done k q c s e keeps = done_call table lawful answer new b c s e (λ ok. (accepted_from (first t rs) (rest t rs) (late rs) (pass ok) k (q ok), keeps ok))
 
 -- a call under grounds that say the same
@@ -132,7 +132,7 @@ same_call table lawful one other new b r s c same e k = subst (λ (x : Result De
   below = k.below;
   trades = k.trades;
   unaltered = k.unaltered;
-  answers = λ ok. k.answers ok ∙ same (table b.below) (vec_items b.trades);
+  answers = λ ok. k.answers ok ∙ same (table b.below) (vec_items b.ledger.trades);
   stays = k.stays;
   adds_up = k.adds_up;
 })

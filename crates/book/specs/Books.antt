@@ -17,21 +17,21 @@ use Rattle.book.specs.declared.trades.Trade.{Trade}
 
 module _ {S : Type 0} (table : S → Table) where
   abbrev pub table_of : Book S → Table
-  table_of b = over (table b.below) (vec_items b.trades)
+  table_of b = over (table b.below) (vec_items b.ledger.trades)
 
   abbrev pub AddsUp : Book S → Type 0
   AddsUp b = (w : Place) → total_at (table_of b) w ≡ total_at (table b.below) w
 
   pub record Lawful (lawful : S → Type 0) (b : Book S) : Type 0 where
     pub under : lawful b.below
-    pub trades : Balanced (table b.below) (vec_items b.trades)
+    pub trades : Balanced (table b.below) (vec_items b.ledger.trades)
 
 module _ {S : Type 0} (table : S → Table) (lawful : S → Type 0) where
   pub record Called (answer : Table → List Trade → Result Deal BookFault) (new : List Trade → List Trade) (b : Book S) (r : Result Deal BookFault) (c : Book S) : Type 0 where
     pub below : c.below ≡ b.below
-    pub trades : vec_items c.trades ≡ after r (new (vec_items b.trades)) (vec_items b.trades)
+    pub trades : vec_items c.ledger.trades ≡ after r (new (vec_items b.ledger.trades)) (vec_items b.ledger.trades)
     -- a call that is not done leaves the whole book equal
     pub unaltered : NotDone r (c ≡ b)
-    pub answers : Lawful table lawful b → r ≡ answer (table b.below) (vec_items b.trades)
+    pub answers : Lawful table lawful b → r ≡ answer (table b.below) (vec_items b.ledger.trades)
     pub stays : Lawful table lawful b → Lawful table lawful c
     pub adds_up : Lawful table lawful b → AddsUp table c

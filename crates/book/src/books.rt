@@ -1,36 +1,18 @@
-ghost use Rattle.std.specs.Prelude.{◌≡◌, ◌*◌, ◌≤◌, []};
-ghost use Rattle.sheet.specs.Limits.{max_kw};
-ghost use Rattle.book.specs.Limits.{max_trades};
-ghost use Rattle.book.specs.Trades.{bought_at, sold_at};
+ghost use Rattle.std.specs.Prelude.{◌≡◌, []};
 ghost use Rattle.book.specs.Books.{table_of, Lawful, AddsUp};
 ghost use Rattle.book.specs.Totals.{over_bounded};
 
 use crate::kept::{Book, Pages};
-use crate::trades::{Moved, Trade};
+use crate::trades::Trade;
 use figures::{Kw, Seat};
 use sheet::{Place, Sheet};
 
 impl<S> Book<S> {
-    // What the standing trades bring to a seat and take from it at one place.
-    fn moved(&self, seat: Seat, place: Place) -> Moved
-        ensures bought { result.bought ≡ bought_at seat.0 place self.now.trades.items }
-        ensures sold { result.sold ≡ sold_at seat.0 place self.now.trades.items }
-        ensures most { result.bought ≤ max_trades * max_kw }
-    {
-        let mut all = Moved { bought: 0, sold: 0 };
-        for trade in self.trades() {
-            let one = trade.moved(seat, place);
-            all.bought += one.bought;
-            all.sold += one.sold;
-        }
-        all
-    }
-
     // The trades of the book, in the order in which they were offered.
     pub fn trades(&self) -> &[Trade]
-        ensures { result.now ≡ self.now.trades.items }
+        ensures { result.now ≡ self.now.ledger.trades.items }
     {
-        self.trades.as_slice()
+        self.ledger.trades()
     }
 }
 
@@ -38,12 +20,12 @@ impl<S: Sheet> Book<S> {
     // Lays an empty book on a sheet.
     pub fn new(below: S, pages: Pages) -> Book<S>
         ensures below { result.below ≡ below }
-        ensures trades { result.trades.items ≡ [] }
+        ensures trades { result.ledger.trades.items ≡ [] }
         ensures lawful { S.Sheet.lawful below → Lawful S.Sheet.table S.Sheet.lawful result }
         ensures adds { S.Sheet.lawful below → AddsUp S.Sheet.table result }
     {
-        let Pages { trades } = pages;
-        Book { below, trades }
+        let Pages { ledger } = pages;
+        Book { below, ledger }
     }
 }
 
@@ -52,7 +34,7 @@ impl<S: Sheet> Sheet for Book<S> {
 
     ghost lawful = { λ b. Lawful S.Sheet.table S.Sheet.lawful b };
 
-    ghost bounded = { λ x ok. over_bounded (S.Sheet.table x.below) x.trades.items ok.trades (S.Sheet.bounded x.below ok.under) };
+    ghost bounded = { λ x ok. over_bounded (S.Sheet.table x.below) x.ledger.trades.items ok.trades (S.Sheet.bounded x.below ok.under) };
 
     fn seats(&self) -> u8 {
         self.below.seats()
@@ -64,7 +46,7 @@ impl<S: Sheet> Sheet for Book<S> {
 
     fn cell(&self, seat: Seat, place: Place) -> Option<Kw> {
         let kw = self.below.cell(seat, place)?;
-        let moved = self.moved(seat, place);
+        let moved = self.ledger.moved(seat, place);
         Some(Kw(kw.0.saturating_add(moved.bought).saturating_sub(moved.sold)))
     }
 

@@ -11,17 +11,6 @@ use crate::trades::{Trade, TradeEvent, Turn};
 use figures::{Hour, TradeNumber};
 use sheet::Sheet;
 
-impl<S> Book<S> {
-    // Takes a trade out of the book.
-    fn strike(&mut self, index: usize)
-        requires here { index < length self.old.trades.items }
-        ensures below { self.new.below ≡ self.old.below }
-        ensures trades { self.new.trades.items ≡ remove self.old.trades.items index }
-    {
-        self.trades.remove(index);
-    }
-}
-
 impl<S: Sheet> Book<S> {
     // Whether the trade may leave the book: what a confirmed one brought, its buyer still holds.
     fn spares(&self, trade: &Trade) -> Result<(), BookFault>
@@ -48,14 +37,14 @@ impl<S: Sheet> Book<S> {
     // The same for a layer above, which holds back a trade that begins before the hour `from`.
     pub fn cancel_from(&mut self, number: TradeNumber, from: Hour) -> Result<Deal, BookFault>
         ensures call { Called S.Sheet.table S.Sheet.lawful (cancel_answer_from from.0 number.0) (λ rs. cancelled_in rs number.0) self.old result self.new }
-        ensures held { IfHeld result (begins_before (trade_of self.old.trades.items number.0).offer from.0 ≡ true) }
+        ensures held { IfHeld result (begins_before (trade_of self.old.ledger.trades.items number.0).offer from.0 ≡ true) }
     {
-        let found = self.find(number)?;
+        let found = self.ledger.find(number)?;
         if found.trade.offer.first < from {
             return Ok(Deal::Held);
         }
         self.spares(&found.trade)?;
-        self.strike(found.index);
+        self.ledger.strike(found.index);
         Ok(Deal::Done)
     }
 }

@@ -10,32 +10,20 @@ use crate::deals::Deal;
 use crate::faults::BookFault;
 use crate::finds::Found;
 use crate::kept::Book;
-use crate::trades::{TradeEvent, Turn};
+use crate::trades::TradeEvent;
 use figures::{Hour, Seat, TradeNumber};
 use sheet::Sheet;
-
-impl<S> Book<S> {
-    // Lets the confirm happen to a trade, which then stands. An index, since no struct can hold the place and lend the book too.
-    fn stand(&mut self, index: usize) -> Result<Turn, BookFault>
-        requires here { index < length self.old.trades.items }
-        ensures turn { result ≡ turn_of (slice_index_or self.old.trades.items index no_trade).state Confirm }
-        ensures below { self.new.below ≡ self.old.below }
-        ensures trades { self.new.trades.items ≡ slice_set self.old.trades.items index (confirmed (slice_index_or self.old.trades.items index no_trade)) }
-    {
-        self.trades[index].turn(TradeEvent::Confirm)
-    }
-}
 
 impl<S: Sheet> Book<S> {
     // The trade, where the seat may confirm it.
     fn to_confirm(&self, number: TradeNumber, seat: Seat) -> Result<Found, BookFault>
-        ensures judged { Lawful S.Sheet.table S.Sheet.lawful self.now → Judged (find_grounds (S.Sheet.table self.now.below) self.now.trades.items number.0 seat.0) result }
-        ensures found { IfOk result (λ f. IsFound self.now.trades.items number.0 f × (f.trade.state ≡ Offered)) }
+        ensures judged { Lawful S.Sheet.table S.Sheet.lawful self.now → Judged (find_grounds (S.Sheet.table self.now.below) self.now.ledger.trades.items number.0 seat.0) result }
+        ensures found { IfOk result (λ f. IsFound self.now.ledger.trades.items number.0 f × (f.trade.state ≡ Offered)) }
     {
         if seat.0 >= self.below.seats() {
             return Err(BookFault::Beyond);
         }
-        let found = self.find(number)?;
+        let found = self.ledger.find(number)?;
         if found.trade.offer.buyer != seat {
             return Err(BookFault::NotConfirmable);
         }
@@ -60,14 +48,14 @@ impl<S: Sheet> Book<S> {
         from: Hour,
     ) -> Result<Deal, BookFault>
         ensures call { Called S.Sheet.table S.Sheet.lawful (confirm_answer_from from.0 number.0 seat.0) (λ rs. confirmed_in rs number.0) self.old result self.new }
-        ensures held { IfHeld result (begins_before (trade_of self.old.trades.items number.0).offer from.0 ≡ true) }
+        ensures held { IfHeld result (begins_before (trade_of self.old.ledger.trades.items number.0).offer from.0 ≡ true) }
     {
         let found = self.to_confirm(number, seat)?;
         if found.trade.offer.first < from {
             return Ok(Deal::Held);
         }
         self.check_cover(&found.trade.offer)?;
-        self.stand(found.index)?;
+        self.ledger.stand(found.index)?;
         Ok(Deal::Done)
     }
 }

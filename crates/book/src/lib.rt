@@ -9,10 +9,12 @@ pub mod deals;
 pub mod faults;
 pub mod finds;
 pub mod kept;
+pub mod ledgers;
 pub mod offers;
 pub mod trades;
 
 pub use deals::Deal;
 pub use faults::BookFault;
-pub use kept::{Book, MAX_TRADES, Pages};
+pub use kept::{Book, Pages};
+pub use ledgers::MAX_TRADES;
 pub use trades::{Offer, Trade, TradeEvent, TradeState, Turn};

@@ -8,8 +8,8 @@ ghost use Rattle.book.specs.Books.{Lawful, Called};
 
 use crate::deals::Deal;
 use crate::faults::BookFault;
-use crate::kept::{Book, MAX_TRADES};
-use crate::trades::{Offer, Trade, TradeState};
+use crate::kept::Book;
+use crate::trades::Offer;
 use figures::{Hour, MAX_HOURS, PRODUCTS};
 use sheet::{MAX_KW, Sheet};
 
@@ -26,22 +26,6 @@ impl Offer {
         ensures { result ≡ void self.now }
     {
         self.seller == self.buyer || self.first > self.last
-    }
-}
-
-impl<S> Book<S> {
-    // Writes the offer behind the other trades.
-    fn enter(&mut self, offer: Offer)
-        requires fit { Fit offer }
-        requires new { in_book self.old.trades.items offer.number.0 ≡ false }
-        requires room { vec_len self.old.trades < max_trades }
-        ensures below { self.new.below ≡ self.old.below }
-        ensures trades { self.new.trades.items ≡ offered self.old.trades.items offer }
-    {
-        self.trades.push_reserved(Trade {
-            offer,
-            state: TradeState::Offered,
-        });
     }
 }
 
@@ -63,8 +47,8 @@ impl<S: Sheet> Book<S> {
 
     // Whether the book takes the offer.
     fn admits(&self, offer: &Offer) -> Result<(), BookFault>
-        ensures judged { Lawful S.Sheet.table S.Sheet.lawful self.now → Judged (offer_grounds (S.Sheet.table self.now.below) self.now.trades.items offer.now) result }
-        ensures fits { OnOk result (Fit offer.now × (in_book self.now.trades.items offer.now.number.0 ≡ false) × (vec_len self.now.trades < max_trades)) }
+        ensures judged { Lawful S.Sheet.table S.Sheet.lawful self.now → Judged (offer_grounds (S.Sheet.table self.now.below) self.now.ledger.trades.items offer.now) result }
+        ensures fits { OnOk result (Fit offer.now × (in_book self.now.ledger.trades.items offer.now.number.0 ≡ false) × (vec_len self.now.ledger.trades < max_trades)) }
     {
         if self.is_beyond(offer) {
             return Err(BookFault::Beyond);
@@ -75,10 +59,10 @@ impl<S: Sheet> Book<S> {
         if offer.is_void() {
             return Err(BookFault::Void);
         }
-        if self.index_of(offer.number).is_some() {
+        if self.ledger.index_of(offer.number).is_some() {
             return Err(BookFault::Known);
         }
-        if self.trades.len() >= MAX_TRADES {
+        if self.ledger.is_full() {
             return Err(BookFault::Full);
         }
         Ok(())
@@ -101,7 +85,7 @@ impl<S: Sheet> Book<S> {
         if offer.first < from {
             return Ok(Deal::Held);
         }
-        self.enter(offer);
+        self.ledger.enter(offer);
         Ok(Deal::Done)
     }
 }

@@ -22,7 +22,7 @@ pub fn pile_of_four<S: Sheet>(
     fourth: Pages,
 ) -> Book<Book<Book<Book<S>>>>
     ensures sheet { result.below.below.below.below ≡ below }
-    ensures empty { (result.trades.items ≡ []) × (result.below.trades.items ≡ []) × (result.below.below.trades.items ≡ []) × (result.below.below.below.trades.items ≡ []) }
+    ensures empty { (result.ledger.trades.items ≡ []) × (result.below.ledger.trades.items ≡ []) × (result.below.below.ledger.trades.items ≡ []) × (result.below.below.below.ledger.trades.items ≡ []) }
     ensures lawful { S.Sheet.lawful below → Lawful (table_of (table_of (table_of S.Sheet.table))) (Lawful (table_of (table_of S.Sheet.table)) (Lawful (table_of S.Sheet.table) (Lawful S.Sheet.table S.Sheet.lawful))) result }
 {
     Book::new(

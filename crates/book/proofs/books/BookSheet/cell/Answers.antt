@@ -7,7 +7,7 @@ pub returns : goal.returns
 returns g c ok =
     let w = c.args.place in
     let t = g.S.Sheet.table c.args.self.now.below in
-    let rs = vec_items c.args.self.now.trades in
+    let rs = vec_items c.args.self.now.ledger.trades in
     let b = bought_at c.args.seat.0 w rs in
     let d = sold_at c.args.seat.0 w rs in
     let here : t.cell c.args.seat.0 w ≡ Some c.in_ok-kw.kw.0 = sym (c.in_ok-kw.ensures ok.under) in

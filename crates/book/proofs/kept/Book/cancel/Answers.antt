@@ -14,4 +14,4 @@ returns-in_err-cancel_from g c =
     rw (p.1, p.2) (same_call g.S.Sheet.table g.S.Sheet.lawful (cancel_answer_from 0 c.args.number.0) (cancel_answer c.args.number.0) (λ (rs : List Trade). cancelled_in rs c.args.number.0) c.args.self.now _ _ _ (λ (t : Table) (rs : List Trade). plain (known_grounds rs c.args.number.0) (undo_grounds (over t rs) (trade_of rs c.args.number.0)) (trade_of rs c.args.number.0).offer) refl c.in_err-cancel_from.ensures.call)
 
 pub returns : goal.returns
-returns g c = same_call g.S.Sheet.table g.S.Sheet.lawful (cancel_answer_from 0 c.args.number.0) (cancel_answer c.args.number.0) (λ (rs : List Trade). cancelled_in rs c.args.number.0) c.args.self.now _ (Ok Done) _ (λ (t : Table) (rs : List Trade). plain (known_grounds rs c.args.number.0) (undo_grounds (over t rs) (trade_of rs c.args.number.0)) (trade_of rs c.args.number.0).offer) (only_done _ (trade_of (vec_items c.args.self.now.trades) c.args.number.0).offer c.in_ok-cancel_from.ensures.held) c.in_ok-cancel_from.ensures.call
+returns g c = same_call g.S.Sheet.table g.S.Sheet.lawful (cancel_answer_from 0 c.args.number.0) (cancel_answer c.args.number.0) (λ (rs : List Trade). cancelled_in rs c.args.number.0) c.args.self.now _ (Ok Done) _ (λ (t : Table) (rs : List Trade). plain (known_grounds rs c.args.number.0) (undo_grounds (over t rs) (trade_of rs c.args.number.0)) (trade_of rs c.args.number.0).offer) (only_done _ (trade_of (vec_items c.args.self.now.ledger.trades) c.args.number.0).offer c.in_ok-cancel_from.ensures.held) c.in_ok-cancel_from.ensures.call

@@ -1,4 +1,4 @@
-use Rattle.std.proofs.Common.{◌≡◌, ℕ, Bool, List, Some, None, vec_items, ap, ◌∙◌, subst}
+use Rattle.std.proofs.Common.{◌≡◌, ℕ, Bool, List, Some, None, vec_items, refl, ap, ◌∙◌, subst}
 use Rattle.std.proofs.lemmas.Result.{err_from_is_err_and}
 use Rattle.std.specs.List.{remove}
 use Rattle.figures.specs.Grounds.{first_of}
@@ -45,7 +45,7 @@ returns-in_err-spares-clause-call g c =
     let found = c.in_ok-found.ensures in
     let is = begun _ _ c.args.from.0 _ (ap (λ (r : Trade). r.offer) found.found.trade) c.if-lt.ensures in
     let e = c.in_err-spares.field-0.0 in
-    let v = over (g.S.Sheet.table b.below) (vec_items b.trades) in
+    let v = over (g.S.Sheet.table b.below) (vec_items b.ledger.trades) in
     rw (p.1, p.2) (denied_at_rest g.S.Sheet.table g.S.Sheet.lawful (first n) (rest n) (late n c.args.from.0) (new n) b (λ ok. found.judged) is e (λ ok. subst (λ (r : Trade). first_of (undo_grounds v r) ≡ Some e) found.found.trade (c.in_err-spares.ensures ok)))
 
 pub returns-clause-call : goal.returns-clause-call
@@ -53,11 +53,11 @@ returns-clause-call g c =
     let n = c.args.number.0 in
     let b = c.args.self.now in
     let t = g.S.Sheet.table b.below in
-    let rs = vec_items b.trades in
+    let rs = vec_items b.ledger.trades in
     let found = c.in_ok-found.ensures in
     let is = begun _ _ c.args.from.0 _ (ap (λ (r : Trade). r.offer) found.found.trade) c.if-lt.ensures in
-    let items = c.strike.ensures.trades ∙ ap (remove rs) found.found.index in
+    let items = c.strike.ensures ∙ ap (remove rs) found.found.index in
     done g.S.Sheet.table g.S.Sheet.lawful (first n) (rest n) (late n c.args.from.0) (new n) b (λ ok. found.judged) is
     (λ ok. subst (λ (r : Trade). first_of (undo_grounds (over t rs) r) ≡ None) found.found.trade (c.in_ok-spares.ensures ok))
-    c.strike.new.self c.strike.ensures.below items
+    _ refl items
     (λ ok. cancel_stays t rs n found.found.here ok.trades (subst (λ (r : Trade). first_of (undo_grounds (over t rs) r) ≡ None) found.found.trade (c.in_ok-spares.ensures ok)))

@@ -1,4 +1,4 @@
-use Rattle.std.proofs.Common.{◌≡◌, ℕ, Bool, List, get_or, set, Some, None, vec_items, ap, ◌∙◌, subst}
+use Rattle.std.proofs.Common.{◌≡◌, ℕ, Bool, List, get_or, set, Some, None, vec_items, refl, ap, ◌∙◌, subst}
 use Rattle.std.proofs.lemmas.Result.{err_from_is_err_and}
 use Rattle.figures.specs.Grounds.{first_of}
 use Rattle.sheet.specs.Tables.{Table}
@@ -45,7 +45,7 @@ returns-in_err-check_cover-clause-call g c =
     let found = c.in_ok-found.ensures in
     let is = begun _ _ c.args.from.0 _ (ap (λ (r : Trade). r.offer) found.found.0.trade) c.if-lt.ensures in
     let e = c.in_err-check_cover.field-0.0 in
-    let v = over (g.S.Sheet.table b.below) (vec_items b.trades) in
+    let v = over (g.S.Sheet.table b.below) (vec_items b.ledger.trades) in
     rw (p.1, p.2) (denied_at_rest g.S.Sheet.table g.S.Sheet.lawful (first n c.args.seat.0) (rest n) (late n c.args.from.0) (new n) b found.judged is e (λ ok. subst (λ (r : Trade). first_of (cover_grounds v r.offer) ≡ Some e) found.found.0.trade (c.in_err-check_cover.ensures ok)))
 
 pub returns-clause-call : goal.returns-clause-call
@@ -53,12 +53,12 @@ returns-clause-call g c =
     let n = c.args.number.0 in
     let b = c.args.self.now in
     let t = g.S.Sheet.table b.below in
-    let rs = vec_items b.trades in
+    let rs = vec_items b.ledger.trades in
     let found = c.in_ok-found.ensures in
     let is = begun _ _ c.args.from.0 _ (ap (λ (r : Trade). r.offer) found.found.0.trade) c.if-lt.ensures in
     let items = c.stand.ensures.trades ∙ ap (λ (k : ℕ). set rs k (confirmed (get_or rs k no_trade))) found.found.0.index in
     let offered = subst (λ (r : Trade). r.state ≡ Offered) found.found.0.trade found.found.1 in
     done g.S.Sheet.table g.S.Sheet.lawful (first n c.args.seat.0) (rest n) (late n c.args.from.0) (new n) b found.judged is
     (λ ok. subst (λ (r : Trade). first_of (cover_grounds (over t rs) r.offer) ≡ None) found.found.0.trade (c.in_ok-check_cover.ensures ok))
-    c.stand.new.self c.stand.ensures.below items
+    _ refl items
     (λ ok. confirm_stays t rs n found.found.0.here ok.trades offered (subst (λ (r : Trade). first_of (cover_grounds (over t rs) r.offer) ≡ None) found.found.0.trade (c.in_ok-check_cover.ensures ok)))

@@ -35,7 +35,7 @@ returns-clause-call g c =
     let o = c.args.offer in
     let b = c.args.self.now in
     let t = g.S.Sheet.table b.below in
-    let rs = vec_items b.trades in
+    let rs = vec_items b.ledger.trades in
     let none = c.in_ok-admits.ensures.judged in
     done g.S.Sheet.table g.S.Sheet.lawful (first o) rest (λ _. begins_before o c.args.from.0) (new o) b none (begun o o c.args.from.0 _ refl c.if-lt.ensures) (λ ok. refl)
-    c.enter.new.self c.enter.ensures.below c.enter.ensures.trades (λ ok. offer_keeps t rs o (offer_sound t rs o (none ok)) ok.trades)
+    _ refl c.enter.ensures (λ ok. offer_keeps t rs o (offer_sound t rs o (none ok)) ok.trades)

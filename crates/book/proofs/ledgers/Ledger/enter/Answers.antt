@@ -4,10 +4,10 @@ use Rattle.book.specs.declared.trades.TradeState.TheVariants.{Offered}
 use Rattle.book.specs.Trades.{Each, Fit, Apart}
 use Rattle.book.proofs.Each.{each_push}
 use Rattle.book.proofs.Numbers.{apart_push}
-use Rattle.book.proofs.kept.Book.enter.Goals as goal
+use Rattle.book.proofs.ledgers.Ledger.enter.Goals as goal
 
 pub invariant_of-self : goal.invariant_of-self
-invariant_of-self g c =
+invariant_of-self c =
     let rs = vec_items c.args.self.now.trades in
     let y : Trade = record { offer = c.args.offer; state = Offered } in
     let fits : Trade → Type 0 = λ r. Fit r.offer in
