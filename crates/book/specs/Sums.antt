@@ -1,6 +1,7 @@
 -- Purchases and sales cancel: each standing trade is bought once and sold once. Assumes nothing.
 use Rattle.std.specs.Prelude.{◌≡◌, ℕ, zero, suc, ◌+◌, ◌<◌, Bool, true, false, cond, ◌&&◌, List, [], ◌∷◌, length, sum_by, ◌==◌, nat_lt, slice_index_or, refl}
 use Rattle.std.proofs.Common.{sym, ap, ◌∙◌, arith, lt-ltb}
+use Rattle.std.proofs.Math.Bool.{and-true}
 use Rattle.std.proofs.lemmas.List.Sums.{sum_by-cons}
 use Rattle.std.proofs.lemmas.Bool.Decides.{nat_tests}
 use Rattle.figures.specs.SeatSums.{sum_to, sum_to_suc, sum_to_plus, sum_to_same}
@@ -26,12 +27,8 @@ to_up : (b : Bool) (a k n : ℕ) → sum_to (λ s. cond (b && a == s) k 0) n ≡
 to_up b a k zero = none_yet b a k
 to_up b a k (suc n) = omega (arith, to_up b a k n, one_more b a k n, sum_to_suc (λ s. cond (b && a == s) k 0) n)
 
-and_true : (b : Bool) → (b && true) ≡ b
-and_true true = refl
-and_true false = refl
-
 to_one : (b : Bool) (a k n : ℕ) → a < n → sum_to (λ s. cond (b && a == s) k 0) n ≡ cond b k 0
-to_one b a k n h = to_up b a k n ∙ ap (λ (x : Bool). cond (b && x) k 0) (lt-ltb a n h) ∙ ap (λ (x : Bool). cond x k 0) (and_true b)
+to_one b a k n h = to_up b a k n ∙ ap (λ (x : Bool). cond (b && x) k 0) (lt-ltb a n h) ∙ ap (λ (x : Bool). cond x k 0) (and-true b)
 
 module _ (who : Trade → ℕ) (w : Place) (n : ℕ) where
   abbrev part : ℕ → Trade → ℕ

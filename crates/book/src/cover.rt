@@ -29,7 +29,7 @@ impl Offer {
         }
     }
 
-    // The first of its hours at which a test holds.
+    // The first of its hours at which a test holds. A loop: of `find` over these hours no proof was found.
     fn first_hour<F: Fn(Hour) -> bool>(&self, test: F) -> Option<Hour>
         requires { F.IsAlwaysCallable test }
         ensures { (p : ℕ → Bool) → ((h : ℕ) (b : Bool) → F.post test (record { 0 = h }) b → b ≡ p h) → hour_of result ≡ first_of_hours self.now p }

@@ -94,17 +94,16 @@ impl Trade {
     {
         let offer = self.offer;
         let stands = self.stands_at(place);
+        let share = |party: Seat| {
+            if stands && party == seat {
+                offer.kw.0
+            } else {
+                0
+            }
+        };
         Moved {
-            bought: if stands && offer.buyer == seat {
-                offer.kw.0
-            } else {
-                0
-            },
-            sold: if stands && offer.seller == seat {
-                offer.kw.0
-            } else {
-                0
-            },
+            bought: share(offer.buyer),
+            sold: share(offer.seller),
         }
     }
 }

@@ -41,11 +41,6 @@ fn at(zone: u8, product: u8, hour: u16) -> Place {
     }
 }
 
-// The kW of a cell, none where it is blank.
-fn kw(cell: Option<Kw>) -> Option<u32> {
-    cell.map(|kw| kw.0)
-}
-
 // An offer of product 0 in zone 0.
 fn sale(number: u16, seller: u8, buyer: u8, first: u16, last: u16, kw: u32) -> Offer {
     Offer {
@@ -61,12 +56,12 @@ fn sale(number: u16, seller: u8, buyer: u8, first: u16, last: u16, kw: u32) -> O
 }
 
 // What a seat holds of product 0 in zone 0.
-fn held<S: Sheet>(sheet: &S, seat: u8, hour: u16) -> Option<u32> {
-    kw(sheet.cell(Seat(seat), at(0, 0, hour)))
+fn held<S: Sheet>(sheet: &S, seat: u8, hour: u16) -> Option<Kw> {
+    sheet.cell(Seat(seat), at(0, 0, hour))
 }
 
-fn all<S: Sheet>(sheet: &S, hour: u16) -> Option<u32> {
-    kw(sheet.total(at(0, 0, hour)))
+fn all<S: Sheet>(sheet: &S, hour: u16) -> Option<Kw> {
+    sheet.total(at(0, 0, hour))
 }
 
 #[test]
@@ -124,19 +119,19 @@ fn awards(rt: HostRuntime) -> Result<(), Fail> {
         held(&sheet, 2, 5),
         all(&sheet, 5),
         all(&sheet, 744),
-        kw(sheet.cell(Seat(0), at(0, 1, 0))),
+        sheet.cell(Seat(0), at(0, 1, 0)),
     ];
     assert_eq!(rt;
         cells,
         [
-            Some(1_000_000),
-            Some(1_000_000),
+            Some(Kw(1_000_000)),
+            Some(Kw(1_000_000)),
             None,
-            Some(0),
+            Some(Kw(0)),
             None,
-            Some(1_000_000),
+            Some(Kw(1_000_000)),
             None,
-            Some(0)
+            Some(Kw(0))
         ]
     );
     Ok(())
@@ -151,9 +146,9 @@ fn figures_hour_by_hour(rt: HostRuntime) -> Result<(), Fail> {
         held(&sheet, 0, 0),
         held(&sheet, 1, 0),
         all(&sheet, 0),
-        kw(sheet.cell(Seat(0), at(0, 1, 0))),
-        kw(sheet.cell(Seat(1), at(0, 1, 0))),
-        kw(sheet.total(at(0, 1, 0))),
+        sheet.cell(Seat(0), at(0, 1, 0)),
+        sheet.cell(Seat(1), at(0, 1, 0)),
+        sheet.total(at(0, 1, 0)),
         held(&sheet, 0, 1),
         held(&sheet, 1, 1),
         all(&sheet, 1),
@@ -161,13 +156,13 @@ fn figures_hour_by_hour(rt: HostRuntime) -> Result<(), Fail> {
     assert_eq!(rt;
         cells,
         [
-            Some(10),
-            Some(20),
-            Some(30),
-            Some(11),
+            Some(Kw(10)),
+            Some(Kw(20)),
+            Some(Kw(30)),
+            Some(Kw(11)),
             None,
             None,
-            Some(1_000_000),
+            Some(Kw(1_000_000)),
             None,
             None
         ]
@@ -182,10 +177,10 @@ fn zones_come_before_products(rt: HostRuntime) -> Result<(), Fail> {
     let sheet = HourlySheet::new(SheetSize::new(1, 2)?, &column[..]);
     assert_eq!(rt;
         [
-            kw(sheet.cell(Seat(0), at(0, 1, 0))),
-            kw(sheet.cell(Seat(0), at(1, 0, 0))),
+            sheet.cell(Seat(0), at(0, 1, 0)),
+            sheet.cell(Seat(0), at(1, 0, 0)),
         ],
-        [Some(2), Some(3)]
+        [Some(Kw(2)), Some(Kw(3))]
     );
     Ok(())
 }
@@ -237,7 +232,7 @@ fn a_blank_met_at_its_hour(rt: HostRuntime) -> Result<(), Fail> {
             held(&book, 1, 2),
             all(&book, 2),
         ],
-        [Some(2), Some(8), Some(10), None, None]
+        [Some(Kw(2)), Some(Kw(8)), Some(Kw(10)), None, None]
     );
     Ok(())
 }
@@ -265,7 +260,13 @@ fn a_chain_is_covered_in_the_right_order_only(rt: HostRuntime) -> Result<(), Fai
             held(&book, 2, 4),
             all(&book, 5),
         ],
-        [Some(0), Some(0), Some(10), Some(0), Some(10)]
+        [
+            Some(Kw(0)),
+            Some(Kw(0)),
+            Some(Kw(10)),
+            Some(Kw(0)),
+            Some(Kw(10))
+        ]
     );
     let back = [
         denial(book.cancel(TradeNumber(2))),
@@ -274,7 +275,7 @@ fn a_chain_is_covered_in_the_right_order_only(rt: HostRuntime) -> Result<(), Fai
     assert_eq!(rt; back, [DONE, DONE]);
     assert_eq!(rt;
         [held(&book, 0, 5), held(&book, 1, 5), held(&book, 2, 5)],
-        [Some(10), Some(0), Some(0)]
+        [Some(Kw(10)), Some(Kw(0)), Some(Kw(0))]
     );
     Ok(())
 }
@@ -419,9 +420,9 @@ fn who_confirms_and_how_often(rt: HostRuntime) -> Result<(), Fail> {
     Ok(())
 }
 
-// How a call that may be held back ended, or the number of its ground.
-fn ending(answer: Result<Deal, BookFault>) -> Result<Deal, u8> {
-    answer.map_err(|fault| Ground::from(fault).number)
+// How a call that may be held back ended, or the ground of its denial.
+fn ending(answer: Result<Deal, BookFault>) -> Result<Deal, Option<Ground>> {
+    answer.map_err(|fault| Some(Ground::from(fault)))
 }
 
 #[test]
@@ -444,16 +445,16 @@ fn held_back_by_a_layer_above(rt: HostRuntime) -> Result<(), Fail> {
         answers,
         [
             Ok(Deal::Held),
-            Err(9),
+            Err(by_book(9, 0)),
             Ok(Deal::Done),
-            Err(10),
-            Err(13),
+            Err(by_book(10, 0)),
+            Err(by_book(13, 0)),
             Ok(Deal::Held),
-            Err(17),
-            Err(12),
+            Err(by_book(17, 3)),
+            Err(by_book(12, 0)),
             Ok(Deal::Held),
             Ok(Deal::Done),
-            Err(12),
+            Err(by_book(12, 0)),
         ]
     );
     Ok(())
@@ -482,7 +483,13 @@ fn four_books_over_awards(rt: HostRuntime) -> Result<(), Fail> {
             held(&pile, 2, 9),
             all(&pile, 7),
         ],
-        [Some(6), Some(0), Some(4), Some(0), Some(10)]
+        [
+            Some(Kw(6)),
+            Some(Kw(0)),
+            Some(Kw(4)),
+            Some(Kw(0)),
+            Some(Kw(10))
+        ]
     );
     Ok(())
 }
@@ -516,10 +523,10 @@ fn two_books_over_figures_by_the_hour(rt: HostRuntime) -> Result<(), Fail> {
         [
             held(&pile, 0, 0),
             held(&pile, 1, 0),
-            kw(total_above(&pile, at(0, 0, 0))),
-            kw(total_above(&pile, at(0, 0, 1))),
+            total_above(&pile, at(0, 0, 0)),
+            total_above(&pile, at(0, 0, 1)),
         ],
-        [Some(9), Some(0), Some(9), None]
+        [Some(Kw(9)), Some(Kw(0)), Some(Kw(9)), None]
     );
     Ok(())
 }

@@ -46,6 +46,7 @@ impl SheetSize {
     }
 }
 
+// It shares with the award sheet what `SheetSize` says; of a sheet over any reading each would be a reading with a type of its own.
 impl<C: Column> Sheet for HourlySheet<C> {
     ghost table = { λ x. hourly_table x.size.seats x.size.zones (C.Column.numbers x.column) };
 

@@ -7,6 +7,7 @@ use Rattle.book.specs.declared.faults.BookFault.{BookFault}
 use Rattle.book.specs.declared.trades.Trade.{Trade}
 use Rattle.book.specs.Trades.{over}
 use Rattle.book.specs.Deals.{trade_of, known_grounds, undo_grounds, cancelled_in, begins_before}
+use Rattle.book.specs.Books.{Lawful}
 use Rattle.book.proofs.Calls.{begun, denied_at_first, held_back, denied_at_rest, done}
 use Rattle.book.proofs.Stays.{cancel_stays}
 use Rattle.book.proofs.kept.Book.cancel_from.Goals as goal
@@ -56,8 +57,8 @@ returns-clause-call g c =
     let rs = vec_items b.ledger.trades in
     let found = c.in_ok-found.ensures in
     let is = begun _ _ c.args.from.0 _ (ap (λ (r : Trade). r.offer) found.found.trade) c.if-lt.ensures in
+    let none : Lawful g.S.Sheet.table g.S.Sheet.lawful b → first_of (rest n t rs) ≡ None = λ ok. subst (λ (r : Trade). first_of (undo_grounds (over t rs) r) ≡ None) found.found.trade (c.in_ok-spares.ensures ok) in
     let items = c.strike.ensures ∙ ap (remove rs) found.found.index in
     done g.S.Sheet.table g.S.Sheet.lawful (first n) (rest n) (late n c.args.from.0) (new n) b (λ ok. found.judged) is
-    (λ ok. subst (λ (r : Trade). first_of (undo_grounds (over t rs) r) ≡ None) found.found.trade (c.in_ok-spares.ensures ok))
-    _ refl items
-    (λ ok. cancel_stays t rs n found.found.here ok.trades (subst (λ (r : Trade). first_of (undo_grounds (over t rs) r) ≡ None) found.found.trade (c.in_ok-spares.ensures ok)))
+    none _ refl items
+    (λ ok. cancel_stays t rs n found.found.here ok.trades (none ok))

@@ -7,6 +7,7 @@ use Rattle.book.specs.declared.trades.Trade.{Trade}
 use Rattle.book.specs.declared.trades.TradeState.TheVariants.{Offered}
 use Rattle.book.specs.Trades.{no_trade, confirmed, over}
 use Rattle.book.specs.Deals.{trade_of, find_grounds, cover_grounds, confirmed_in, begins_before}
+use Rattle.book.specs.Books.{Lawful}
 use Rattle.book.proofs.Calls.{begun, denied_at_first, held_back, denied_at_rest, done}
 use Rattle.book.proofs.Stays.{confirm_stays}
 use Rattle.book.proofs.kept.Book.confirm_from.Goals as goal
@@ -56,9 +57,9 @@ returns-clause-call g c =
     let rs = vec_items b.ledger.trades in
     let found = c.in_ok-found.ensures in
     let is = begun _ _ c.args.from.0 _ (ap (λ (r : Trade). r.offer) found.found.0.trade) c.if-lt.ensures in
+    let none : Lawful g.S.Sheet.table g.S.Sheet.lawful b → first_of (rest n t rs) ≡ None = λ ok. subst (λ (r : Trade). first_of (cover_grounds (over t rs) r.offer) ≡ None) found.found.0.trade (c.in_ok-check_cover.ensures ok) in
     let items = c.stand.ensures.trades ∙ ap (λ (k : ℕ). set rs k (confirmed (get_or rs k no_trade))) found.found.0.index in
     let offered = subst (λ (r : Trade). r.state ≡ Offered) found.found.0.trade found.found.1 in
     done g.S.Sheet.table g.S.Sheet.lawful (first n c.args.seat.0) (rest n) (late n c.args.from.0) (new n) b found.judged is
-    (λ ok. subst (λ (r : Trade). first_of (cover_grounds (over t rs) r.offer) ≡ None) found.found.0.trade (c.in_ok-check_cover.ensures ok))
-    _ refl items
-    (λ ok. confirm_stays t rs n found.found.0.here ok.trades offered (subst (λ (r : Trade). first_of (cover_grounds (over t rs) r.offer) ≡ None) found.found.0.trade (c.in_ok-check_cover.ensures ok)))
+    none _ refl items
+    (λ ok. confirm_stays t rs n found.found.0.here ok.trades offered (none ok))

@@ -1,5 +1,5 @@
 use Rattle.std.proofs.Common.{◌≡◌, ℕ, ◌+◌, ◌<◌, Some, Option, sym, ap, ◌∙◌, arith}
-use Rattle.sheet.specs.Tables.{added_up, kilowatts}
+use Rattle.sheet.specs.Tables.{kilowatts}
 use Rattle.sheet.specs.Sums.{added_next, added_fits, added_blank}
 use Rattle.sheet.proofs.sheets.Sheet.total.Goals as goal
 
