@@ -1,0 +1,4 @@
+pub mod Layout
+pub mod Reading
+pub mod Writing
+pub mod Tapes

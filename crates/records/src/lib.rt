@@ -1,0 +1,14 @@
+// The records of a tape, read and written, and the text of a statement.
+#![tactic(auto)]
+
+pub mod bodies;
+pub mod entries;
+pub mod faults;
+pub mod reading;
+pub mod tapes;
+pub mod writing;
+
+pub use entries::{Amount, Confirmation, Entry, LoadSet, MonthSet};
+pub use faults::TapeFault;
+pub use reading::{Body, Record, read};
+pub use tapes::{Reading, read_all};
