@@ -43,10 +43,11 @@ impl Division<'_> {
     fn left(&self) -> u64
         ensures { result ≡ left_over self.now.total (tenths self.now.loads.now) }
     {
-        let mut given: u64 = 0;
-        for load in self.loads {
-            given += self.due(*load) / self.all;
-        }
+        let given: u64 = self
+            .loads
+            .iter()
+            .map(|load| self.due(*load) / self.all)
+            .sum();
         self.total - given
     }
 
