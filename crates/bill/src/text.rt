@@ -15,7 +15,7 @@ pub(crate) fn shares_line(
 {
     let mut line = format!(in heap; "{letter}")?;
     for share in shares {
-        write!(line, " {}", share.0)?;
+        write!(line, " {share}")?;
     }
     Ok(line)
 }

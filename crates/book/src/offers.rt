@@ -10,7 +10,7 @@ use crate::deals::Deal;
 use crate::faults::BookFault;
 use crate::kept::Book;
 use crate::trades::Offer;
-use figures::{Hour, MAX_HOURS, PRODUCTS};
+use figures::{Hour, Kw, MAX_HOURS, PRODUCTS};
 use sheet::{MAX_KW, Sheet};
 
 impl Offer {
@@ -18,7 +18,7 @@ impl Offer {
     fn is_misfigured(&self) -> bool
         ensures { result ≡ misfigured self.now }
     {
-        self.kw.0 == 0 || self.kw > MAX_KW
+        self.kw == Kw(0) || self.kw > MAX_KW
     }
 
     // Whether it has one seat on both sides, or its first hour after its last.

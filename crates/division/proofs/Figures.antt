@@ -1,11 +1,11 @@
 -- The loads of a slice and their figures, and a share column, place by place.
-use Rattle.std.proofs.Common.{◌≡◌, ℕ, ◌+◌, ◌-◌, ◌<◌, List, ◌++◌, map, length, get_or, take, drop, ℤ, pos, ◌≤ℤ◌, sum, sym, ap, ◌∙◌, arith}
+use Rattle.std.proofs.Common.{◌≡◌, ℕ, ◌+◌, ◌-◌, ◌<◌, List, [], ◌∷◌, ◌++◌, map, length, get_or, set, take, drop, ℤ, pos, ◌≤ℤ◌, sum, sym, ap, ◌∙◌, arith}
 use mathlib.Core.List.{map-map}
 use Rattle.std.specs.List.{range_with_len}
-use Rattle.std.proofs.lemmas.List.{length-map, get_or-map, length-take-le, get_or-append_right, get_or-drop}
+use Rattle.std.proofs.lemmas.List.{length-map, get_or-map, length-take-le, get_or-append_right, get_or-drop, take_more_set}
 use Rattle.std.proofs.lemmas.Int.{ints}
 use Rattle.std.proofs.lemmas.List.Sums.{sum_by_more}
-use Rattle.std.proofs.lemmas.List.FromFn.{fill_by_all}
+use Rattle.std.proofs.lemmas.List.FromFn.{map-range_with_len_more}
 use Rattle.figures.specs.declared.units.Cents.{Cents}
 use Rattle.figures.specs.declared.units.Load.{Load}
 use Rattle.division.specs.Columns.{tenths, cents_of}
@@ -31,13 +31,19 @@ sum_more loads s lt =
     let a = tenths-at loads s lt in
     omega arith
 
--- a share column that holds f at each seat
-pub filled : (f : ℕ → ℕ) (out : List Cents) (n : ℕ) → length out ≡ n
-    → ((s : ℕ) → s < n → get_or out s nothing ≡ record { 0 = pos (f s) })
-    → out ≡ cents_of (map pos (map f (range_with_len 0 n)))
-filled f out n len h =
-    fill_by_all (λ (s : ℕ). record { 0 = pos (f s) }) out n nothing len h
-    ∙ sym (ap cents_of (map-map pos f (range_with_len 0 n)) ∙ map-map (λ (z : ℤ). record { 0 = z }) (λ s. pos (f s)) (range_with_len 0 n))
+-- a column that holds f before place s, and then there too
+pub one_more : {X : Type 0} (f : ℕ → X) (out : List X) (s : ℕ) (v : X) → s < length out → v ≡ f s → take s out ≡ map f (range_with_len 0 s)
+    → take (s + 1) (set out s v) ≡ map f (range_with_len 0 (s + 1))
+one_more {X} f out s v lt here before =
+    take_more_set out s v lt
+    ∙ (ap (λ (xs : List X). xs ++ v ∷ []) before
+    ∙ (ap (λ (y : X). map f (range_with_len 0 s) ++ y ∷ []) here
+    ∙ sym (map-range_with_len_more f 0 s s (omega arith))))
+
+-- the figures f of n seats, in cents
+pub in_cents : (f : ℕ → ℕ) (n : ℕ) → map (λ (s : ℕ). record { 0 = pos (f s) }) (range_with_len 0 n) ≡ cents_of (map pos (map f (range_with_len 0 n)))
+in_cents f n =
+    sym (ap cents_of (map-map pos f (range_with_len 0 n)) ∙ map-map (λ (z : ℤ). record { 0 = z }) (λ s. pos (f s)) (range_with_len 0 n))
 
 -- a column of shares that are not below 0
 pub not_below : (xs : List ℕ) (out : List Cents) → out ≡ cents_of (map pos xs) → (s : ℕ) → s < length out → pos 0 ≤ℤ (get_or out s nothing).0

@@ -1,11 +1,10 @@
-ghost use Rattle.std.specs.Prelude.{◌≡◌, ◌*◌, ◌<◌, ◌≤◌, map, length, pos, sum};
-ghost use Rattle.std.specs.List.{range_with_len};
+ghost use Rattle.std.specs.Prelude.{◌≡◌, ◌*◌, ◌<◌, ◌≤◌, length, take};
 ghost use Rattle.division.specs.Limits.{max_total, max_load};
-ghost use Rattle.division.specs.Columns.{tenths, cents_of};
-ghost use Rattle.division.specs.Remainder.{floor_at, rests_of, left_over, ahead, remainder_of, LargestRemainders};
+ghost use Rattle.division.specs.Columns.{tenths};
+ghost use Rattle.division.specs.Remainder.{rests_of, left_over, ahead, remainder_of, LargestRemainders};
 ghost use Rattle.division.specs.Remaining.{remainder_keeps};
 
-use crate::rules::{Division, DivisionFault, DivisionRule};
+use crate::rules::{Division, DivisionRule};
 use figures::{Cents, Load, MAX_SEATS};
 
 // Every share rounded down, then one cent each to the seats of largest remainder, ties to the lower seat.
@@ -26,52 +25,41 @@ impl DivisionRule for LargestRemainder {
 
     ghost keeps = { λ rule t ls f. remainder_keeps t ls f };
 
-    fn divide(&self, total: Cents, loads: &[Load], out: &mut [Cents]) -> Result<(), DivisionFault> {
-        Division::new(total, loads, out.len())?.write_remainder(out);
-        Ok(())
+    fn share_out(&self, division: &Division<'_>) -> [Cents; MAX_SEATS] {
+        let left = division.left();
+        let rests = &division.rests()[..division.loads.len()];
+        let mut shares = [Cents(0); MAX_SEATS];
+        for (s, load) in division.loads.iter().enumerate() {
+            let floor = division.due(*load) / division.all;
+            let extra = u64::from(ahead_of(rests, s) < left);
+            shares[s] = Cents((floor + extra) as i64);
+        }
+        shares
     }
 }
 
 impl Division<'_> {
-    // Writes the share of each seat by the largest remainders.
-    fn write_remainder(&self, out: &mut [Cents])
-        requires { length out.old ≡ length self.now.loads.now }
-        ensures { out.new ≡ cents_of (map pos (remainder_of self.now.total (tenths self.now.loads.now))) }
+    // The cents that are left when every seat has its share rounded down.
+    fn left(&self) -> u64
+        ensures { result ≡ left_over self.now.total (tenths self.now.loads.now) }
     {
-        // Room for as many seats as there can be, since a division wants no memory.
-        let mut column = [0u64; MAX_SEATS];
-        let rests = &mut column[..self.loads.len()];
-        let given = self.write_rests(rests);
-        self.write_shares(self.total - given, rests, out);
+        let given: u64 = self
+            .loads
+            .iter()
+            .map(|load| self.due(*load) / self.all)
+            .sum();
+        self.total - given
     }
 
-    // Writes each seat's remainder; answers the sum of the shares rounded down.
-    fn write_rests(&self, rests: &mut [u64]) -> u64
-        requires { length rests.old ≡ length self.now.loads.now }
-        ensures sum { result ≡ sum (map (floor_at self.now.total (tenths self.now.loads.now)) (range_with_len 0 (length (tenths self.now.loads.now)))) }
-        ensures rests { rests.new ≡ rests_of self.now.total (tenths self.now.loads.now) }
+    // The remainders of the shares, one a seat.
+    fn rests(&self) -> [u64; MAX_SEATS]
+        ensures { take (length self.now.loads.now) result ≡ rests_of self.now.total (tenths self.now.loads.now) }
     {
-        let mut given: u64 = 0;
+        let mut rests = [0; MAX_SEATS];
         for (s, load) in self.loads.iter().enumerate() {
-            let due = self.due(*load);
-            given += due / self.all;
-            rests[s] = due % self.all;
+            rests[s] = self.due(*load) % self.all;
         }
-        given
-    }
-
-    // Writes each seat's share: rounded down, and one cent more where fewer seats stand before it than cents are left.
-    fn write_shares(&self, left: u64, rests: &[u64], out: &mut [Cents])
-        requires left { left ≡ left_over self.now.total (tenths self.now.loads.now) }
-        requires rests { rests.now ≡ rests_of self.now.total (tenths self.now.loads.now) }
-        requires room { length out.old ≡ length self.now.loads.now }
-        ensures { out.new ≡ cents_of (map pos (remainder_of self.now.total (tenths self.now.loads.now))) }
-    {
-        for (s, load) in self.loads.iter().enumerate() {
-            let floor = self.due(*load) / self.all;
-            let extra = u64::from(ahead_of(rests, s) < left);
-            out[s] = Cents((floor + extra) as i64);
-        }
+        rests
     }
 
     // What is due to a load, before it is divided by all loads.

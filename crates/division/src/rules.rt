@@ -1,13 +1,13 @@
-ghost use Rattle.std.specs.Prelude.{◌≡◌, ℕ, true, false, List, length, IfOk, sum, MatchResult, unsigned_abs};
+ghost use Rattle.std.specs.Prelude.{◌≡◌, ℕ, true, false, List, length, map, take, pos, IfOk, sum, MatchResult, unsigned_abs};
 ghost use Rattle.figures.specs.Grounds.{Judged};
-ghost use Rattle.division.specs.Columns.{tenths};
+ghost use Rattle.division.specs.Columns.{tenths, cents_of};
 ghost use Rattle.division.specs.Rules.{heavy, unfit, rule_grounds, ground_of, RuleDivided, Fair, Lawful};
 ghost use Rattle.division.specs.declared.rules.DivisionFault.TheVariants.{Beyond};
 
 use figures::{Cents, Ground, Layer, Load, MAX_SEATS};
 
-// The largest total that a rule divides, in cents. A plain number, since its opposite is a limit too.
-pub const MAX_TOTAL: i64 = 1_500_000_000_000;
+// The largest total that a rule divides.
+pub const MAX_TOTAL: Cents = Cents(1_500_000_000_000);
 // The largest load of a seat.
 pub const MAX_LOAD: Load = Load(300_000);
 
@@ -45,10 +45,18 @@ pub trait DivisionRule {
     // What the rule means: the shares of a total over loads.
     ghost shares: { Self → ℕ → List ℕ → List ℕ };
 
-    // Writes one share a seat, or denies and leaves the column as it was. Each rule begins with `Division::new`; a body here
-    // would need a public step that asks its caller for a column of the right length.
+    // The share of each seat, in a column with room for as many seats as there can be, since a division wants no memory.
+    fn share_out(&self, division: &Division<'_>) -> [Cents; MAX_SEATS]
+        ensures { take (length division.now.loads.now) result ≡ cents_of (map pos (shares self.now division.now.total (tenths division.now.loads.now))) };
+
+    // Writes one share a seat, or denies and leaves the column as it was.
     fn divide(&self, total: Cents, loads: &[Load], out: &mut [Cents]) -> Result<(), DivisionFault>
-        ensures { RuleDivided (shares self.now) total.0 (tenths loads.now) out.old result out.new };
+        ensures { RuleDivided (shares self.now) total.0 (tenths loads.now) out.old result out.new }
+    {
+        let division = Division::new(total, loads, out.len())?;
+        out.copy_from_slice(&self.share_out(&division)[..loads.len()]);
+        Ok(())
+    }
 
     ghost keeps: { (rule : Self) (t : ℕ) (ls : List ℕ) → Fair t ls → Lawful t ls (shares rule t ls) };
 }
@@ -70,7 +78,7 @@ impl<'a> Division<'a> {
         ensures judged { Judged (rule_grounds total.0 (tenths loads.now) room) result }
         ensures made { IfOk result (λ d. (d.total ≡ unsigned_abs total.0) × (d.loads.now ≡ loads.now) × (room ≡ length loads.now)) }
     {
-        if !(0..=MAX_TOTAL).contains(&total.0) {
+        if !(Cents(0)..=MAX_TOTAL).contains(&total) {
             return Err(DivisionFault::Beyond);
         }
         let all = sum_if_fit(loads, room)?;
@@ -78,7 +86,7 @@ impl<'a> Division<'a> {
             return Err(DivisionFault::NoLoad);
         }
         Ok(Division {
-            total: total.0 as u64,
+            total: total.0.unsigned_abs(),
             loads,
             all,
         })

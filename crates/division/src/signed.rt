@@ -16,10 +16,10 @@ pub fn divide_signed<R: DivisionRule>(
 ) -> Result<(), DivisionFault>
     ensures { SignedDivided (R.DivisionRule.shares rule.now) total.0 (tenths loads.now) out.old result out.new }
 {
-    if !(-MAX_TOTAL..=MAX_TOTAL).contains(&total.0) {
+    if !(Cents(-MAX_TOTAL.0)..=MAX_TOTAL).contains(&total) {
         return Err(DivisionFault::Beyond);
     }
-    match total.0.cmp(&0) {
+    match total.cmp(&Cents(0)) {
         Ordering::Equal => give_nothing(loads, out),
         Ordering::Greater => rule.divide(total, loads, out),
         Ordering::Less => {

@@ -1,5 +1,5 @@
 use division::{DivisionFault, DivisionRule, LargestRemainder, RunningCut, divide_signed};
-use figures::{Cents, Factor, Ground, Kw, Load, Price, Product, TermFigures, Terms};
+use figures::{Cents, Factor, Ground, Kw, Layer, Load, Price, Product, TermFigures, Terms};
 use std::test::Fail;
 
 // 320 hours, net price 600,000 for product 0 and 0 for product 1, factor 1.50.
@@ -24,21 +24,25 @@ fn highest() -> TermFigures {
     }
 }
 
-fn refused(figures: TermFigures) -> bool {
-    Terms::new(figures).is_err_and(|fault| {
-        let ground = Ground::from(fault);
-        ground.number == 5 && ground.layer.letter() == 'm' && ground.place == 0
-    })
+// The ground on which terms are refused, where they are.
+fn denial(figures: TermFigures) -> Option<Ground> {
+    Terms::new(figures).err().map(Ground::from)
 }
+
+const REFUSED: Option<Ground> = Some(Ground {
+    number: 5,
+    layer: Layer::Month,
+    place: 0,
+});
 
 #[test]
 fn credits_and_penalties(rt: HostRuntime) -> Result<(), Fail> {
     let terms = Terms::new(example())?;
-    assert_eq!(rt; terms.credit(Product::TMNSR, Kw(7_500)).0, 14_063);
-    assert_eq!(rt; terms.penalty(Product::TMNSR, Kw(500)).0, 1_406);
+    assert_eq!(rt; terms.credit(Product::TMNSR, Kw(7_500)), Cents(14_063));
+    assert_eq!(rt; terms.penalty(Product::TMNSR, Kw(500)), Cents(1_406));
     // the price of product 1 equals the capacity price; there is no product 2
-    assert_eq!(rt; terms.credit(Product::TMOR, Kw(7_500)).0, 0);
-    assert_eq!(rt; terms.credit(Product(2), Kw(7_500)).0, 0);
+    assert_eq!(rt; terms.credit(Product::TMOR, Kw(7_500)), Cents(0));
+    assert_eq!(rt; terms.credit(Product(2), Kw(7_500)), Cents(0));
     Ok(())
 }
 
@@ -46,9 +50,9 @@ fn credits_and_penalties(rt: HostRuntime) -> Result<(), Fail> {
 fn rounded_once_and_each_by_itself(rt: HostRuntime) -> Result<(), Fail> {
     let terms = Terms::new(example())?;
     // 1.875 cents a kW: rounding that rate first would give 15,000
-    assert_eq!(rt; terms.credit(Product::TMNSR, Kw(7_500)).0, 14_063);
+    assert_eq!(rt; terms.credit(Product::TMNSR, Kw(7_500)), Cents(14_063));
     // 937.5 and 1,406.25 cents: netting before rounding would give -469
-    assert_eq!(rt; terms.credit(Product::TMNSR, Kw(500)).0, 938);
+    assert_eq!(rt; terms.credit(Product::TMNSR, Kw(500)), Cents(938));
     let account = terms
         .credit(Product::TMNSR, Kw(500))
         .0
@@ -59,53 +63,61 @@ fn rounded_once_and_each_by_itself(rt: HostRuntime) -> Result<(), Fail> {
 
 #[test]
 fn limits_of_terms(rt: HostRuntime) {
-    assert!(rt;
-        !refused(TermFigures {
+    assert_eq!(rt;
+        denial(TermFigures {
             hours: 744,
             ..highest()
-        })
+        }),
+        None
     );
-    assert!(rt;
-        refused(TermFigures {
+    assert_eq!(rt;
+        denial(TermFigures {
             hours: 745,
             ..highest()
-        })
+        }),
+        REFUSED
     );
-    assert!(rt;
-        refused(TermFigures {
+    assert_eq!(rt;
+        denial(TermFigures {
             hours: 0,
             ..highest()
-        })
+        }),
+        REFUSED
     );
-    assert!(rt;
-        refused(TermFigures {
+    assert_eq!(rt;
+        denial(TermFigures {
             tmnsr: Price(2_000_001),
             ..highest()
-        })
+        }),
+        REFUSED
     );
-    assert!(rt;
-        refused(TermFigures {
+    assert_eq!(rt;
+        denial(TermFigures {
             tmor: Price(2_000_001),
             ..highest()
-        })
+        }),
+        REFUSED
     );
-    assert!(rt;
-        !refused(TermFigures {
+    assert_eq!(rt;
+        denial(TermFigures {
             capacity: Price(2_000_000),
             ..highest()
-        })
+        }),
+        None
     );
-    assert!(rt;
-        refused(TermFigures {
+    assert_eq!(rt;
+        denial(TermFigures {
             capacity: Price(2_000_001),
             ..highest()
-        })
+        }),
+        REFUSED
     );
-    assert!(rt;
-        refused(TermFigures {
+    assert_eq!(rt;
+        denial(TermFigures {
             factor: Factor(501),
             ..highest()
-        })
+        }),
+        REFUSED
     );
 }
 
@@ -113,19 +125,19 @@ fn limits_of_terms(rt: HostRuntime) {
 fn largest_products(rt: HostRuntime) -> Result<(), Fail> {
     let terms = Terms::new(highest())?;
     assert_eq!(rt;
-        terms.credit(Product::TMOR, Kw(4_294_967_295)).0,
-        8_589_934_590_000
+        terms.credit(Product::TMOR, Kw(4_294_967_295)),
+        Cents(8_589_934_590_000)
     );
     assert_eq!(rt;
-        terms.penalty(Product::TMOR, Kw(4_294_967_295)).0,
-        42_949_672_950_000
+        terms.penalty(Product::TMOR, Kw(4_294_967_295)),
+        Cents(42_949_672_950_000)
     );
     // a capacity price above the clearing price leaves nothing, and no less
     let low = Terms::new(TermFigures {
         tmnsr: Price(299_999),
         ..example()
     })?;
-    assert_eq!(rt; low.net(Product::TMNSR).0, 0);
+    assert_eq!(rt; low.net(Product::TMNSR), Price(0));
     Ok(())
 }
 
@@ -134,21 +146,30 @@ fn three<R: DivisionRule>(
     rule: &R,
     total: i64,
     loads: [u32; 3],
-) -> (Option<DivisionFault>, [i64; 3]) {
+) -> (Result<(), DivisionFault>, [Cents; 3]) {
     let mut out = [Cents(-7); 3];
     let answer = rule.divide(Cents(total), &loads.map(Load), &mut out);
-    (answer.err(), out.map(|share| share.0))
+    (answer, out)
 }
 
 #[test]
 fn rules_apart(rt: HostRuntime) {
     // leaving all left-over cents to the last seat would give 1, 1, 3
-    assert_eq!(rt; three(&RunningCut, 5, [1, 1, 1]), (None, [1, 2, 2]));
-    assert_eq!(rt; three(&LargestRemainder, 5, [1, 1, 1]), (None, [2, 2, 1]));
-    assert_eq!(rt; three(&RunningCut, 101, [1, 2, 1]), (None, [25, 50, 26]));
+    assert_eq!(rt;
+        three(&RunningCut, 5, [1, 1, 1]),
+        (Ok(()), [1, 2, 2].map(Cents))
+    );
+    assert_eq!(rt;
+        three(&LargestRemainder, 5, [1, 1, 1]),
+        (Ok(()), [2, 2, 1].map(Cents))
+    );
+    assert_eq!(rt;
+        three(&RunningCut, 101, [1, 2, 1]),
+        (Ok(()), [25, 50, 26].map(Cents))
+    );
     assert_eq!(rt;
         three(&LargestRemainder, 101, [1, 2, 1]),
-        (None, [25, 51, 25])
+        (Ok(()), [25, 51, 25].map(Cents))
     );
 }
 
@@ -156,24 +177,24 @@ fn rules_apart(rt: HostRuntime) {
 fn denied_and_unaltered(rt: HostRuntime) {
     assert_eq!(rt;
         three(&RunningCut, -1, [1, 1, 1]),
-        (Some(DivisionFault::Beyond), [-7, -7, -7])
+        (Err(DivisionFault::Beyond), [Cents(-7); 3])
     );
     assert_eq!(rt;
         three(&RunningCut, 1_500_000_000_001, [1, 1, 1]),
-        (Some(DivisionFault::Beyond), [-7, -7, -7])
+        (Err(DivisionFault::Beyond), [Cents(-7); 3])
     );
     assert_eq!(rt;
         three(&LargestRemainder, 9, [1, 300_001, 1]),
-        (Some(DivisionFault::Beyond), [-7, -7, -7])
+        (Err(DivisionFault::Beyond), [Cents(-7); 3])
     );
     assert_eq!(rt;
         three(&LargestRemainder, 9, [0, 0, 0]),
-        (Some(DivisionFault::NoLoad), [-7, -7, -7])
+        (Err(DivisionFault::NoLoad), [Cents(-7); 3])
     );
     // a figure beyond its limit comes before loads that are all 0
     assert_eq!(rt;
         three(&LargestRemainder, -9, [0, 0, 0]),
-        (Some(DivisionFault::Beyond), [-7, -7, -7])
+        (Err(DivisionFault::Beyond), [Cents(-7); 3])
     );
 }
 

@@ -1,0 +1,13 @@
+use Rattle.std.proofs.Common.{◌≡◌, ℕ, map, length, take, pos, sum}
+use Rattle.std.specs.List.{range_with_len}
+use Rattle.figures.specs.Limits.{max_seats}
+use Rattle.division.specs.Columns.{tenths}
+use Rattle.division.specs.Cut.{up_to, cut_at}
+use Rattle.division.proofs.cut.RunningCutDivisionRule.share_out.Given as goal
+
+abbrev pub invariant-loop-s : goal.invariant-loop-s
+invariant-loop-s l =
+    (length l.shares ≡ max_seats)
+    × (l.run ≡ sum (take l.s (tenths l.division.loads.now)))
+    × (l.paid ≡ up_to l.division.total (tenths l.division.loads.now) l.s)
+    × (take l.s l.shares ≡ map (λ (k : ℕ). record { 0 = pos (cut_at l.division.total (tenths l.division.loads.now) k) }) (range_with_len 0 l.s))
