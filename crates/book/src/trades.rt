@@ -6,7 +6,7 @@ use figures::{Hour, Kw, Product, Seat, TradeNumber, Zone};
 use sheet::Place;
 
 // What a seller offers a buyer: kilowatts of one zone and product, from the first hour to the last, both included.
-#[derive(Clone, Copy)]
+#[derive(Clone, Copy, PartialEq, Eq, Debug)]
 pub struct Offer {
     pub number: TradeNumber,
     pub seller: Seat,

@@ -12,7 +12,7 @@ pub const MAX_PRICE: Price = Price(2_000_000);
 pub const MAX_FACTOR: Factor = Factor(500);
 
 // The terms of a month as they are given, within their limits or not.
-#[derive(Clone, Copy)]
+#[derive(Clone, Copy, PartialEq, Eq, Debug)]
 pub struct TermFigures {
     // How many delivery hours the month has.
     pub hours: u16,

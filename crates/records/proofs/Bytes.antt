@@ -1,10 +1,9 @@
 -- Bytes read off a body one by one, and numbers made of them, are the body again. Assumes nothing.
-use Rattle.std.proofs.Common.{◌≡◌, ℕ, ◌<◌, List, [], ◌∷◌, length, get_or, map, refl, sym, ap, ◌∙◌, arith}
+use Rattle.std.proofs.Common.{◌≡◌, ℕ, ◌<◌, List, [], ◌∷◌, length, get_or, map, sym, ◌∙◌, arith}
 use Rattle.std.specs.Int.{w16, w32, to_be_bytes, from_be_bytes}
 use Rattle.std.specs.List.{range_with_len}
 use Rattle.std.proofs.lemmas.List.{ext_get_or}
 use Rattle.std.proofs.lemmas.List.FromFn.{length-map-range_with_len, get_or-map-range_with_len}
-use Rattle.std.proofs.lemmas.Nat.{be_bytes_2, be_bytes_4}
 
 pub read_off : (bs : List ℕ) (n : ℕ) → length bs ≡ n → map (λ i. get_or bs i 0) (range_with_len 0 n) ≡ bs
 read_off bs n e =

@@ -1,5 +1,5 @@
 -- A record that was read is the next part of the tape. Assumes nothing.
-use Rattle.std.proofs.Common.{◌≡◌, ℕ, suc, ◌+◌, ◌≤◌, min, List, ◌∷◌, ◌++◌, length, take, drop, Some, None, Ok, Option, refl, sym, ap, ◌∙◌, subst, add-one, arith}
+use Rattle.std.proofs.Common.{◌≡◌, ℕ, suc, ◌+◌, ◌≤◌, List, ◌∷◌, ◌++◌, length, take, drop, Some, None, Ok, Option, sym, ap, ◌∙◌, subst, arith}
 use Rattle.std.proofs.Math.Seq.{take-append-add}
 use Rattle.std.proofs.lemmas.List.{length-take, length-take-le, length-drop, take-append-drop}
 use Rattle.records.specs.Layout.{width_of, bytes_of}

@@ -6,7 +6,7 @@
 --   body_of e       its body
 --   bytes_of e      its record: the letter, then the body
 --   width_of k      how long the body of a record of the kind k is; none where there is no such kind
-use Rattle.std.specs.Prelude.{◌≡◌, ℕ, cond, List, [], ◌∷◌, ◌++◌, length, Some, None, Option, ◌==◌, refl}
+use Rattle.std.specs.Prelude.{◌≡◌, ℕ, cond, List, [], ◌∷◌, ◌++◌, Some, None, Option, ◌==◌, refl}
 use Rattle.std.specs.Int.{w16, w32, to_be_bytes}
 use Rattle.book.specs.declared.trades.Offer.{Offer as Sale}
 use Rattle.records.specs.declared.entries.Amount.{Amount}

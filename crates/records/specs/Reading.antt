@@ -11,7 +11,7 @@
 --   ReadAt bs p a   a is what reading the tape bs at its byte p answers: none at the end of the tape; a record that stands there,
 --                   its letter and then a body of the length of its kind; the fault of an unknown letter; or the fault of a
 --                   tape that ends inside the body
-use Rattle.std.specs.Prelude.{◌≡◌, ℕ, ◌+◌, ◌<◌, List, [], ◌∷◌, length, take, drop, Some, None, Ok, Err, Option, Result}
+use Rattle.std.specs.Prelude.{◌≡◌, ℕ, ◌<◌, List, [], ◌∷◌, length, take, drop, Some, None, Ok, Err, Option, Result}
 use Rattle.figures.specs.declared.grounds.Ground.{Ground}
 use Rattle.figures.specs.declared.grounds.Layer.TheVariants.{Tape}
 use Rattle.records.specs.Layout.{width_of}

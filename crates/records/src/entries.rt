@@ -2,7 +2,7 @@ use book::Offer;
 use figures::{Hour, Kw, Load, Product, Seat, TermFigures, TradeNumber, Zone};
 
 // What an M says: how many seats and zones the month has, and its terms.
-#[derive(Clone, Copy)]
+#[derive(Clone, Copy, PartialEq, Eq, Debug)]
 pub struct MonthSet {
     pub seats: u8,
     pub zones: u8,
@@ -33,7 +33,7 @@ pub struct LoadSet {
 }
 
 // What a record says, by its kind.
-#[derive(Clone, Copy)]
+#[derive(Clone, Copy, PartialEq, Eq, Debug)]
 pub enum Entry {
     Month(MonthSet),
     Award(Amount),

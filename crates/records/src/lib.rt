@@ -6,6 +6,7 @@ pub mod entries;
 pub mod faults;
 pub mod reading;
 pub mod tapes;
+pub mod text;
 pub mod writing;
 
 pub use entries::{Amount, Confirmation, Entry, LoadSet, MonthSet};

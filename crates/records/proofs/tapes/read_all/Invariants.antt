@@ -1,4 +1,4 @@
-use Rattle.std.proofs.Common.{◌≡◌, ℕ, ◌-◌, ◌≤◌, length, take, vec_items}
+use Rattle.std.proofs.Common.{◌≡◌, ◌-◌, ◌≤◌, length, take, vec_items}
 use Rattle.records.specs.Tapes.{tape_of}
 use Rattle.records.proofs.tapes.read_all.Given as goal
 
