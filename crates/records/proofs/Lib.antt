@@ -1,2 +1,3 @@
 pub mod Bytes
 pub mod Stepping
+pub mod Decoded

@@ -3,3 +3,4 @@ pub mod Reading
 pub mod Writing
 pub mod Tapes
 pub mod Text
+pub mod Decoding

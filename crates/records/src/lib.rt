@@ -7,6 +7,7 @@ pub mod faults;
 pub mod reading;
 pub mod tapes;
 pub mod text;
+pub mod theorems;
 pub mod writing;
 
 pub use entries::{Amount, Confirmation, Entry, LoadSet, MonthSet};
