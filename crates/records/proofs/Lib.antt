@@ -1,3 +1,4 @@
 pub mod Bytes
 pub mod Stepping
 pub mod Decoded
+pub mod Back

@@ -4,7 +4,6 @@
 --   Fits e                    each field of the entry e is within its width
 use Rattle.std.specs.Prelude.{◌≡◌, ℕ, ◌+◌, ◌^◌, ◌<◌, cond, List, [], ◌∷◌, Some, None, Option, ◌==◌, slice_index, refl}
 use Rattle.std.specs.Int.{w16, w32, from_be_bytes}
-use Rattle.records.specs.Layout.{bytes_of}
 use Rattle.records.specs.declared.entries.Amount.{Amount}
 use Rattle.records.specs.declared.entries.Entry.{Entry}
 use Rattle.records.specs.declared.entries.Entry.TheVariants.{Month, Award, Offer, Confirm, Cancel, Open, Tell, Load, Close, Abandon}

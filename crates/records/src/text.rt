@@ -8,15 +8,15 @@ use arrayvec::ArrayString;
 use figures::{Cents, Ground, Hour, StatementLine};
 use itoa::{Buffer, Integer};
 
-// Writes the shortest decimal form of a figure, '-' before a negative one.
+// Writes the shortest decimal form of a figure.
 pub fn write_figure(column: &mut [u8], at: usize, n: i64) -> Option<usize>
     ensures { Written (signed_decimal n) at column.old result column.new }
 {
-    put(column, at, Buffer::new().format(n).as_bytes())
+    put(column, at, figure_of(n).as_str().as_bytes())
 }
 
 // Room for the longest line that is written here.
-type Text = ArrayString<80>;
+pub(crate) type Text = ArrayString<80>;
 
 // A number behind what the text holds.
 fn push_number<I: Integer>(text: &mut Text, n: I)
@@ -34,6 +34,15 @@ fn push_cents(text: &mut Text, cents: Cents)
     ensures long { length text.new.bytes ≤ length text.old.bytes + 20 }
 {
     push_number(text, cents.0);
+}
+
+// The shortest decimal form of a figure, '-' before a negative one.
+pub(crate) fn figure_of(n: i64) -> Text
+    ensures { result.bytes ≡ signed_decimal n }
+{
+    let mut text = Text::new();
+    push_cents(&mut text, Cents(n));
+    text
 }
 
 fn line_of(line: &StatementLine) -> Text

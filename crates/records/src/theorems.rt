@@ -1,7 +1,11 @@
-ghost use Rattle.std.specs.Prelude.{◌^◌, ◌<◌};
+ghost use Rattle.std.specs.Prelude.{◌≡◌, ◌+◌, ◌^◌, ◌<◌, Ok, length, MatchOption};
+ghost use Rattle.records.specs.Layout.{bytes_of};
 ghost use Rattle.records.specs.Decoding.{Fits};
 
 use crate::entries::Entry;
+use crate::reading::read;
+use crate::text::figure_of;
+use std::num::ParseIntError;
 
 fn half(n: u16)
     ensures { n < 2 ^ 16 }
@@ -40,4 +44,27 @@ fn fits(entry: &Entry)
         Entry::Load(l) => word(l.load.0),
         Entry::Close | Entry::Abandon => {}
     }
+}
+
+// Writes an entry and reads it again: where it fits, it is the same entry.
+pub fn written_back(entry: &Entry, column: &mut [u8], at: usize) -> Option<Entry>
+    ensures { MatchOption result (length column.old < at + length (bytes_of entry.now)) (λ e. e ≡ entry.now) }
+{
+    fits(entry);
+    entry.write(column, at)?;
+    match read(column, at) {
+        Ok(Some(record)) => {
+            let back = record.entry();
+            fits(&back);
+            Some(back)
+        }
+        _ => None,
+    }
+}
+
+// Writes a figure in decimal and reads it again: it is the same figure.
+pub fn figure_back(n: i64) -> Result<i64, ParseIntError>
+    ensures { result ≡ Ok n }
+{
+    figure_of(n).as_str().parse()
 }
