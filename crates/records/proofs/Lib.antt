@@ -1,4 +1,1 @@
-pub mod Bytes
 pub mod Stepping
-pub mod Decoded
-pub mod Back

@@ -1,11 +1,25 @@
 ghost use Rattle.std.specs.Prelude.{◌≡◌, ◌+◌, ◌∷◌, length};
-ghost use Rattle.records.specs.Layout.{two, month_body, amount_body, offer_body, confirm_body, load_body, bytes_of};
+ghost use Rattle.records.specs.Layout.{two, four, month_body, amount_body, offer_body, confirm_body, load_body, bytes_of};
 ghost use Rattle.records.specs.Reading.{letter_at, body_at};
 
 use crate::entries::{Amount, Confirmation, Entry, LoadSet, MonthSet};
 use crate::reading::Record;
 use book::Offer;
 use figures::{Factor, Hour, Kw, Load, Price, Product, Seat, TermFigures, TradeNumber, Zone};
+
+// A number of two bytes, the high byte first.
+fn half(bytes: [u8; 2]) -> u16
+    ensures { two result ≡ bytes }
+{
+    u16::from_be_bytes(bytes)
+}
+
+// A number of four bytes, the high byte first.
+fn word(bytes: [u8; 4]) -> u32
+    ensures { four result ≡ bytes }
+{
+    u32::from_be_bytes(bytes)
+}
 
 // What each body says.
 
@@ -36,11 +50,11 @@ fn month(body: &[u8; 18]) -> MonthSet
         seats,
         zones,
         terms: TermFigures {
-            hours: u16::from_be_bytes([d1, d0]),
-            tmnsr: Price(u32::from_be_bytes([a3, a2, a1, a0])),
-            tmor: Price(u32::from_be_bytes([b3, b2, b1, b0])),
-            capacity: Price(u32::from_be_bytes([c3, c2, c1, c0])),
-            factor: Factor(u16::from_be_bytes([f1, f0])),
+            hours: half([d1, d0]),
+            tmnsr: Price(word([a3, a2, a1, a0])),
+            tmor: Price(word([b3, b2, b1, b0])),
+            capacity: Price(word([c3, c2, c1, c0])),
+            factor: Factor(half([f1, f0])),
         },
     }
 }
@@ -53,7 +67,7 @@ fn amount(body: &[u8; 7]) -> Amount
         seat: Seat(seat),
         zone: Zone(zone),
         product: Product(product),
-        kw: Kw(u32::from_be_bytes([k3, k2, k1, k0])),
+        kw: Kw(word([k3, k2, k1, k0])),
     }
 }
 
@@ -77,14 +91,14 @@ fn offer(body: &[u8; 14]) -> Offer
         k0,
     ] = *body;
     Offer {
-        number: TradeNumber(u16::from_be_bytes([n1, n0])),
+        number: TradeNumber(half([n1, n0])),
         seller: Seat(seller),
         buyer: Seat(buyer),
         zone: Zone(zone),
         product: Product(product),
-        first: Hour(u16::from_be_bytes([a1, a0])),
-        last: Hour(u16::from_be_bytes([z1, z0])),
-        kw: Kw(u32::from_be_bytes([k3, k2, k1, k0])),
+        first: Hour(half([a1, a0])),
+        last: Hour(half([z1, z0])),
+        kw: Kw(word([k3, k2, k1, k0])),
     }
 }
 
@@ -93,7 +107,7 @@ fn confirmation(body: &[u8; 3]) -> Confirmation
 {
     let [n1, n0, seat] = *body;
     Confirmation {
-        number: TradeNumber(u16::from_be_bytes([n1, n0])),
+        number: TradeNumber(half([n1, n0])),
         seat: Seat(seat),
     }
 }
@@ -101,13 +115,13 @@ fn confirmation(body: &[u8; 3]) -> Confirmation
 fn number(body: &[u8; 2]) -> TradeNumber
     ensures { two result.0 ≡ body.now }
 {
-    TradeNumber(u16::from_be_bytes(*body))
+    TradeNumber(half(*body))
 }
 
 fn hour(body: &[u8; 2]) -> Hour
     ensures { two result.0 ≡ body.now }
 {
-    Hour(u16::from_be_bytes(*body))
+    Hour(half(*body))
 }
 
 fn load(body: &[u8; 5]) -> LoadSet
@@ -116,7 +130,7 @@ fn load(body: &[u8; 5]) -> LoadSet
     let [seat, l3, l2, l1, l0] = *body;
     LoadSet {
         seat: Seat(seat),
-        load: Load(u32::from_be_bytes([l3, l2, l1, l0])),
+        load: Load(word([l3, l2, l1, l0])),
     }
 }
 
