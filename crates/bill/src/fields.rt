@@ -43,7 +43,7 @@ impl From<AllocError> for LineFault {
     }
 }
 
-// A second one, since a push fails with another type than a new vector, and `?` meets both.
+// A second one, since `push` fails with another type than `collect` and `format!`, and `?` meets both.
 impl<T: Drop> From<AllocFailed<T>> for LineFault {
     ghost from_gives = { λ _ r. r ≡ NoMemory };
 

@@ -1,7 +1,7 @@
 -- Each call keeps a book balanced. Assumes nothing.
-use Rattle.std.proofs.Common.{◌≡◌, ℕ, suc, ◌+◌, ◌-◌, ◌<◌, ◌≤◌, Bool, true, false, cond, ◌&&◌, eqb, leb, List, [], ◌∷◌, ◌++◌, length, get_or, take, drop, set, Some, None, sum_by, Option, refl, ap, subst, add-one, arith}
+use Rattle.std.proofs.Common.{◌≡◌, ℕ, ◌+◌, ◌-◌, ◌<◌, ◌≤◌, Bool, true, false, cond, ◌&&◌, eqb, leb, List, [], ◌∷◌, ◌++◌, length, get_or, set, Some, None, Option, refl, ap, subst, arith}
 use Rattle.std.specs.List.{remove}
-use Rattle.std.proofs.lemmas.List.Sums.{sum_by-set, sum_by_push, sum_by-append, sum_by-take-drop, sum_by-drop_more}
+use Rattle.std.proofs.lemmas.List.Sums.{sum_by-remove, sum_by-set, sum_by_push}
 use Rattle.std.proofs.lemmas.Bool.{and_parts, leb-true, ltb-false, eqb-true}
 use Rattle.sheet.specs.declared.places.Place.{Place}
 use Rattle.sheet.specs.Tables.{Table, at, filled}
@@ -61,13 +61,6 @@ reached o p x s w e k =
     (subst (λ (q : ℕ). p x (at q w.product.0 w.hour.0) ≡ false) (eqb-true o.zone.0 w.zone.0 z.0)
     (subst (λ (q : ℕ). p x (at o.zone.0 q w.hour.0) ≡ false) (eqb-true o.product.0 w.product.0 d.0) m))
 
-sum_removed : (f : Trade → ℕ) (rs : List Trade) (i : ℕ) → i < length rs → sum_by f (remove rs i) + f (get_or rs i no_trade) ≡ sum_by f rs
-sum_removed f rs i lt =
-    let a = sum_by-append f (take i rs) (drop (suc i) rs) in
-    let b = sum_by-take-drop f rs i in
-    let c : sum_by f (drop i rs) ≡ f (get_or rs i no_trade) + sum_by f (drop (suc i) rs) = subst (λ (n : ℕ). sum_by f (drop i rs) ≡ f (get_or rs i no_trade) + sum_by f (drop n rs)) (add-one i) (sum_by-drop_more f rs i no_trade lt) in
-    omega (arith, a, b, c)
-
 module _ (t : Table) (rs : List Trade) where
   -- at a place that an offer reaches, a seat that is short in none of its hours holds its kW, and no party's cell is blank
   holds_there : (o : Offer) (x s : ℕ) (w : Place) → first_short (over t rs) x o ≡ None → (reaches o w && eqb x s) ≡ true → lacks o.kw.0 (shifted (bought_at s w rs) (sold_at s w rs) (t.cell s w)) ≡ false
@@ -113,8 +106,8 @@ module _ (t : Table) (rs : List Trade) where
     -- an offered trade leaves and had moved nothing
     pub withdraw_keeps : was.state ≡ Offered → Balanced t (remove rs i)
     withdraw_keeps o =
-        let sold : (s : ℕ) (w : Place) → sold_at s w (remove rs i) ≡ sold_at s w rs = λ s w. omega (arith, sum_removed (sells s w) rs i lt, sells_as was Offered s w o) in
-        let bought : (s : ℕ) (w : Place) → bought_at s w (remove rs i) ≡ bought_at s w rs = λ s w. omega (arith, sum_removed (buys s w) rs i lt, buys_as was Offered s w o) in
+        let sold : (s : ℕ) (w : Place) → sold_at s w (remove rs i) ≡ sold_at s w rs = λ s w. omega (arith, sum_by-remove (sells s w) rs i no_trade lt, sells_as was Offered s w o) in
+        let bought : (s : ℕ) (w : Place) → bought_at s w (remove rs i) ≡ bought_at s w rs = λ s w. omega (arith, sum_by-remove (buys s w) rs i no_trade lt, buys_as was Offered s w o) in
         record {
           parties = each_removed (λ r. Sound t r.offer) rs i lt b.parties;
           covered = λ s w. omega (arith, sold s w, bought s w, b.covered s w);
@@ -124,8 +117,8 @@ module _ (t : Table) (rs : List Trade) where
     -- a confirmed trade leaves and its buyer holds it still
     pub undo_keeps : was.state ≡ Confirmed → first_short (over t rs) offer.buyer.0 offer ≡ None → Balanced t (remove rs i)
     undo_keeps o e =
-        let sold : (s : ℕ) (w : Place) → sold_at s w (remove rs i) + sells s w was ≡ sold_at s w rs = λ s w. sum_removed (sells s w) rs i lt in
-        let bought : (s : ℕ) (w : Place) → bought_at s w (remove rs i) + cond (reaches offer w && eqb offer.buyer.0 s) offer.kw.0 0 ≡ bought_at s w rs = λ s w. omega (arith, sum_removed (buys s w) rs i lt, buys_as was Confirmed s w o) in
+        let sold : (s : ℕ) (w : Place) → sold_at s w (remove rs i) + sells s w was ≡ sold_at s w rs = λ s w. sum_by-remove (sells s w) rs i no_trade lt in
+        let bought : (s : ℕ) (w : Place) → bought_at s w (remove rs i) + cond (reaches offer w && eqb offer.buyer.0 s) offer.kw.0 0 ≡ bought_at s w rs = λ s w. omega (arith, sum_by-remove (buys s w) rs i no_trade lt, buys_as was Confirmed s w o) in
         record {
           parties = each_removed (λ r. Sound t r.offer) rs i lt b.parties;
           covered = λ s w. part_back (reaches offer w) (eqb offer.buyer.0 s) offer.kw.0 (sold_at s w (remove rs i)) (sold_at s w rs) (filled (t.cell s w)) (bought_at s w (remove rs i)) (bought_at s w rs) (bought s w) (omega (arith, sold s w)) (b.covered s w)

@@ -58,7 +58,7 @@ pub(crate) struct Moved {
 }
 
 impl Trade {
-    // Lets the event happen to the trade, or says why it cannot.
+    // Lets the event happen to the trade, or says why it cannot. State and event are matched together: that is what a trade is.
     pub fn turn(&mut self, event: TradeEvent) -> Result<Turn, BookFault>
         ensures turn { result ≡ turn_of self.old.state event }
         ensures after { self.new ≡ after_turn self.old event }

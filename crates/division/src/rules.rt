@@ -45,7 +45,8 @@ pub trait DivisionRule {
     // What the rule means: the shares of a total over loads.
     ghost shares: { Self → ℕ → List ℕ → List ℕ };
 
-    // The share of each seat, in a column with room for as many seats as there can be, since a division wants no memory.
+    // The share of each seat, in a column with room for as many seats as there can be, since a division wants no memory. The
+    // rules fill it over the loads: with `array::from_fn` each place would have to ask whether there is a load.
     fn share_out(&self, division: &Division<'_>) -> [Cents; MAX_SEATS]
         ensures { take (length division.now.loads.now) result ≡ cents_of (map pos (shares self.now division.now.total (tenths division.now.loads.now))) };
 

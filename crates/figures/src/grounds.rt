@@ -14,7 +14,7 @@ pub enum Layer {
 }
 
 impl Layer {
-    // The letter by which a denial names its layer.
+    // The letter by which a denial names its layer. A `match`, since no derive knows a letter.
     pub fn letter(self) -> char
         ensures { result ≡ letter_of self }
     {

@@ -51,7 +51,7 @@ pub struct Seat(pub u8);
 #[derive(Clone, Copy, PartialEq, Eq, Debug)]
 pub struct Zone(pub u8);
 
-// The number of a product; one beyond the two can be named, and is refused under a ground.
+// The number of a product. One beyond the two can be named: sheets and books refuse it, and it has no price.
 #[derive(Clone, Copy, PartialEq, Eq, Debug)]
 pub struct Product(pub u8);
 

@@ -1,36 +1,34 @@
 use super::{confirm_above, pile_of_four, total_above};
-use book::{Book, BookFault, Deal, Offer, Pages};
+use book::{Book, Deal, Offer, Pages};
 use figures::{Ground, Hour, Kw, Layer, Product, Seat, TradeNumber, Zone};
 use sheet::{AwardSheet, HourlySheet, Place, Sheet, SheetFault, SheetSize};
 use std::test::Fail;
 
-// The ground of a denial, where there is one.
-fn denial<F: Into<Ground>>(answer: Result<(), F>) -> Option<Ground> {
-    answer.err().map(|fault| fault.into())
+// What a call answered, with the ground in place of a fault.
+fn grounds<T, F: Into<Ground>>(answer: Result<T, F>) -> Result<T, Ground> {
+    answer.map_err(|fault| fault.into())
 }
 
-const DONE: Option<Ground> = None;
-
 // A denial by a book.
-fn by_book(number: u8, place: usize) -> Option<Ground> {
-    Some(Ground {
+fn by_book(number: u8, place: usize) -> Ground {
+    Ground {
         number,
         layer: Layer::Book,
         place,
-    })
+    }
 }
 
 // A denial by a sheet.
-fn by_sheet(number: u8) -> Option<Ground> {
-    Some(Ground {
+fn by_sheet(number: u8) -> Ground {
+    Ground {
         number,
         layer: Layer::Sheet,
         place: 0,
-    })
+    }
 }
 
-fn sized(seats: u8, zones: u8) -> Option<Ground> {
-    denial(SheetSize::new(seats, zones).map(|_| ()))
+fn sized(seats: u8, zones: u8) -> Result<(), Ground> {
+    grounds(SheetSize::new(seats, zones).map(|_| ()))
 }
 
 fn at(zone: u8, product: u8, hour: u16) -> Place {
@@ -48,7 +46,7 @@ fn sale(number: u16, seller: u8, buyer: u8, first: u16, last: u16, kw: u32) -> O
         seller: Seat(seller),
         buyer: Seat(buyer),
         zone: Zone(0),
-        product: Product(0),
+        product: Product::TMNSR,
         first: Hour(first),
         last: Hour(last),
         kw: Kw(kw),
@@ -76,12 +74,12 @@ fn size_of_a_sheet(rt: HostRuntime) {
             sized(1, 5),
         ],
         [
-            DONE,
-            DONE,
-            by_sheet(5),
-            by_sheet(5),
-            by_sheet(5),
-            by_sheet(5)
+            Ok(()),
+            Ok(()),
+            Err(by_sheet(5)),
+            Err(by_sheet(5)),
+            Err(by_sheet(5)),
+            Err(by_sheet(5))
         ]
     );
 }
@@ -91,24 +89,24 @@ fn awards(rt: HostRuntime) -> Result<(), Fail> {
     let mut sheet = AwardSheet::new(SheetSize::new(2, 1)?);
     // an award of 0 is an award
     let answers = [
-        denial(sheet.award(Seat(0), Zone(0), Product(0), Kw(1_000_000))),
-        denial(sheet.award(Seat(0), Zone(0), Product(1), Kw(0))),
-        denial(sheet.award(Seat(0), Zone(0), Product(1), Kw(7))),
-        denial(sheet.award(Seat(0), Zone(0), Product(0), Kw(1_000_001))),
-        denial(sheet.award(Seat(2), Zone(0), Product(0), Kw(1_000_001))),
-        denial(sheet.award(Seat(1), Zone(1), Product(0), Kw(1))),
-        denial(sheet.award(Seat(1), Zone(0), Product(2), Kw(1))),
+        grounds(sheet.award(Seat(0), Zone(0), Product::TMNSR, Kw(1_000_000))),
+        grounds(sheet.award(Seat(0), Zone(0), Product::TMOR, Kw(0))),
+        grounds(sheet.award(Seat(0), Zone(0), Product::TMOR, Kw(7))),
+        grounds(sheet.award(Seat(0), Zone(0), Product::TMNSR, Kw(1_000_001))),
+        grounds(sheet.award(Seat(2), Zone(0), Product::TMNSR, Kw(1_000_001))),
+        grounds(sheet.award(Seat(1), Zone(1), Product::TMNSR, Kw(1))),
+        grounds(sheet.award(Seat(1), Zone(0), Product(2), Kw(1))),
     ];
     assert_eq!(rt;
         answers,
         [
-            DONE,
-            DONE,
-            by_sheet(8),
-            by_sheet(7),
-            by_sheet(6),
-            by_sheet(6),
-            by_sheet(6)
+            Ok(()),
+            Ok(()),
+            Err(by_sheet(8)),
+            Err(by_sheet(7)),
+            Err(by_sheet(6)),
+            Err(by_sheet(6)),
+            Err(by_sheet(6))
         ]
     );
     let cells = [
@@ -188,7 +186,7 @@ fn zones_come_before_products(rt: HostRuntime) -> Result<(), Fail> {
 // Three seats and one zone; seat 0 was awarded 10 kW of product 0.
 fn ten_for_seat_0() -> Result<AwardSheet, SheetFault> {
     let mut sheet = AwardSheet::new(SheetSize::new(3, 1)?);
-    sheet.award(Seat(0), Zone(0), Product(0), Kw(10))?;
+    sheet.award(Seat(0), Zone(0), Product::TMNSR, Kw(10))?;
     Ok(sheet)
 }
 
@@ -199,29 +197,29 @@ fn a_blank_met_at_its_hour(rt: HostRuntime) -> Result<(), Fail> {
     let sheet = HourlySheet::new(SheetSize::new(2, 1)?, &column[..]);
     let mut book = Book::new(sheet, Pages::new(rt.alloc())?);
     let offers = [
-        denial(book.offer(sale(1, 0, 1, 0, 2, 3))),
-        denial(book.offer(sale(2, 1, 0, 0, 3, 3))),
-        denial(book.offer(sale(3, 0, 1, 3, 743, 3))),
-        denial(book.offer(sale(4, 0, 1, 0, 1, 3))),
-        denial(book.offer(sale(5, 0, 1, 0, 0, 3))),
+        grounds(book.offer(sale(1, 0, 1, 0, 2, 3))),
+        grounds(book.offer(sale(2, 1, 0, 0, 3, 3))),
+        grounds(book.offer(sale(3, 0, 1, 3, 743, 3))),
+        grounds(book.offer(sale(4, 0, 1, 0, 1, 3))),
+        grounds(book.offer(sale(5, 0, 1, 0, 0, 3))),
     ];
-    assert_eq!(rt; offers, [DONE, DONE, DONE, DONE, DONE]);
+    assert_eq!(rt; offers, [Ok(()), Ok(()), Ok(()), Ok(()), Ok(())]);
     // the blank in hour 2 comes before the short seller in hour 1
     let confirms = [
-        denial(book.confirm(TradeNumber(1), Seat(1))),
-        denial(book.confirm(TradeNumber(2), Seat(0))),
-        denial(book.confirm(TradeNumber(3), Seat(1))),
-        denial(book.confirm(TradeNumber(4), Seat(1))),
-        denial(book.confirm(TradeNumber(5), Seat(1))),
+        grounds(book.confirm(TradeNumber(1), Seat(1))),
+        grounds(book.confirm(TradeNumber(2), Seat(0))),
+        grounds(book.confirm(TradeNumber(3), Seat(1))),
+        grounds(book.confirm(TradeNumber(4), Seat(1))),
+        grounds(book.confirm(TradeNumber(5), Seat(1))),
     ];
     assert_eq!(rt;
         confirms,
         [
-            by_book(16, 2),
-            by_book(16, 2),
-            by_book(16, 3),
-            by_book(17, 1),
-            DONE
+            Err(by_book(16, 2)),
+            Err(by_book(16, 2)),
+            Err(by_book(16, 3)),
+            Err(by_book(17, 1)),
+            Ok(())
         ]
     );
     assert_eq!(rt;
@@ -241,16 +239,23 @@ fn a_blank_met_at_its_hour(rt: HostRuntime) -> Result<(), Fail> {
 fn a_chain_is_covered_in_the_right_order_only(rt: HostRuntime) -> Result<(), Fail> {
     let mut book = Book::new(ten_for_seat_0()?, Pages::new(rt.alloc())?);
     let answers = [
-        denial(book.offer(sale(1, 0, 1, 5, 5, 10))),
-        denial(book.offer(sale(2, 1, 2, 5, 5, 10))),
-        denial(book.confirm(TradeNumber(2), Seat(2))),
-        denial(book.confirm(TradeNumber(1), Seat(1))),
-        denial(book.confirm(TradeNumber(2), Seat(2))),
-        denial(book.cancel(TradeNumber(1))),
+        grounds(book.offer(sale(1, 0, 1, 5, 5, 10))),
+        grounds(book.offer(sale(2, 1, 2, 5, 5, 10))),
+        grounds(book.confirm(TradeNumber(2), Seat(2))),
+        grounds(book.confirm(TradeNumber(1), Seat(1))),
+        grounds(book.confirm(TradeNumber(2), Seat(2))),
+        grounds(book.cancel(TradeNumber(1))),
     ];
     assert_eq!(rt;
         answers,
-        [DONE, DONE, by_book(17, 5), DONE, DONE, by_book(18, 5)]
+        [
+            Ok(()),
+            Ok(()),
+            Err(by_book(17, 5)),
+            Ok(()),
+            Ok(()),
+            Err(by_book(18, 5))
+        ]
     );
     assert_eq!(rt;
         [
@@ -269,10 +274,10 @@ fn a_chain_is_covered_in_the_right_order_only(rt: HostRuntime) -> Result<(), Fai
         ]
     );
     let back = [
-        denial(book.cancel(TradeNumber(2))),
-        denial(book.cancel(TradeNumber(1))),
+        grounds(book.cancel(TradeNumber(2))),
+        grounds(book.cancel(TradeNumber(1))),
     ];
-    assert_eq!(rt; back, [DONE, DONE]);
+    assert_eq!(rt; back, [Ok(()), Ok(())]);
     assert_eq!(rt;
         [held(&book, 0, 5), held(&book, 1, 5), held(&book, 2, 5)],
         [Some(Kw(10)), Some(Kw(0)), Some(Kw(0))]
@@ -285,30 +290,30 @@ fn short_in_a_middle_hour(rt: HostRuntime) -> Result<(), Fail> {
     let mut book = Book::new(ten_for_seat_0()?, Pages::new(rt.alloc())?);
     // trade 1 leaves seat 0 with 5 kW in hour 3, trade 3 leaves seat 1 with none in hour 4
     let answers = [
-        denial(book.offer(sale(1, 0, 2, 3, 3, 5))),
-        denial(book.confirm(TradeNumber(1), Seat(2))),
-        denial(book.offer(sale(2, 0, 1, 1, 5, 6))),
-        denial(book.confirm(TradeNumber(2), Seat(1))),
-        denial(book.cancel(TradeNumber(2))),
-        denial(book.offer(sale(2, 0, 1, 1, 5, 5))),
-        denial(book.confirm(TradeNumber(2), Seat(1))),
-        denial(book.offer(sale(3, 1, 2, 4, 4, 5))),
-        denial(book.confirm(TradeNumber(3), Seat(2))),
-        denial(book.cancel(TradeNumber(2))),
+        grounds(book.offer(sale(1, 0, 2, 3, 3, 5))),
+        grounds(book.confirm(TradeNumber(1), Seat(2))),
+        grounds(book.offer(sale(2, 0, 1, 1, 5, 6))),
+        grounds(book.confirm(TradeNumber(2), Seat(1))),
+        grounds(book.cancel(TradeNumber(2))),
+        grounds(book.offer(sale(2, 0, 1, 1, 5, 5))),
+        grounds(book.confirm(TradeNumber(2), Seat(1))),
+        grounds(book.offer(sale(3, 1, 2, 4, 4, 5))),
+        grounds(book.confirm(TradeNumber(3), Seat(2))),
+        grounds(book.cancel(TradeNumber(2))),
     ];
     assert_eq!(rt;
         answers,
         [
-            DONE,
-            DONE,
-            DONE,
-            by_book(17, 3),
-            DONE,
-            DONE,
-            DONE,
-            DONE,
-            DONE,
-            by_book(18, 4),
+            Ok(()),
+            Ok(()),
+            Ok(()),
+            Err(by_book(17, 3)),
+            Ok(()),
+            Ok(()),
+            Ok(()),
+            Ok(()),
+            Ok(()),
+            Err(by_book(18, 4)),
         ]
     );
     Ok(())
@@ -318,26 +323,26 @@ fn short_in_a_middle_hour(rt: HostRuntime) -> Result<(), Fail> {
 fn the_33rd_trade(rt: HostRuntime) -> Result<(), Fail> {
     let mut book = Book::new(ten_for_seat_0()?, Pages::new(rt.alloc())?);
     for number in 0..32 {
-        assert_eq!(rt; denial(book.offer(sale(number, 0, 1, 0, 0, 1))), DONE);
+        assert_eq!(rt; grounds(book.offer(sale(number, 0, 1, 0, 0, 1))), Ok(()));
     }
     // a number that is in the book is met before the full book
     let answers = [
-        denial(book.offer(sale(32, 0, 1, 0, 0, 1))),
-        denial(book.offer(sale(31, 0, 1, 0, 0, 1))),
-        denial(book.cancel(TradeNumber(5))),
-        denial(book.cancel(TradeNumber(5))),
-        denial(book.offer(sale(32, 0, 1, 0, 0, 1))),
-        denial(book.offer(sale(5, 0, 1, 0, 0, 1))),
+        grounds(book.offer(sale(32, 0, 1, 0, 0, 1))),
+        grounds(book.offer(sale(31, 0, 1, 0, 0, 1))),
+        grounds(book.cancel(TradeNumber(5))),
+        grounds(book.cancel(TradeNumber(5))),
+        grounds(book.offer(sale(32, 0, 1, 0, 0, 1))),
+        grounds(book.offer(sale(5, 0, 1, 0, 0, 1))),
     ];
     assert_eq!(rt;
         answers,
         [
-            by_book(11, 0),
-            by_book(10, 0),
-            DONE,
-            by_book(12, 0),
-            DONE,
-            by_book(11, 0)
+            Err(by_book(11, 0)),
+            Err(by_book(10, 0)),
+            Ok(()),
+            Err(by_book(12, 0)),
+            Ok(()),
+            Err(by_book(11, 0))
         ]
     );
     Ok(())
@@ -348,46 +353,46 @@ fn limits_of_an_offer(rt: HostRuntime) -> Result<(), Fail> {
     let mut book = Book::new(ten_for_seat_0()?, Pages::new(rt.alloc())?);
     let taken = sale(65_535, 2, 0, 743, 743, 16_000_000);
     let other = Offer {
-        product: Product(1),
+        product: Product::TMOR,
         ..sale(0, 0, 2, 0, 743, 1)
     };
     let answers = [
-        denial(book.offer(taken)),
-        denial(book.offer(other)),
-        denial(book.offer(sale(1, 3, 0, 0, 0, 1))),
-        denial(book.offer(sale(1, 0, 3, 0, 0, 1))),
-        denial(book.offer(Offer {
+        grounds(book.offer(taken)),
+        grounds(book.offer(other)),
+        grounds(book.offer(sale(1, 3, 0, 0, 0, 1))),
+        grounds(book.offer(sale(1, 0, 3, 0, 0, 1))),
+        grounds(book.offer(Offer {
             zone: Zone(1),
             ..sale(1, 0, 1, 0, 0, 1)
         })),
-        denial(book.offer(Offer {
+        grounds(book.offer(Offer {
             product: Product(2),
             ..sale(1, 0, 1, 0, 0, 1)
         })),
-        denial(book.offer(sale(1, 0, 1, 744, 743, 1))),
-        denial(book.offer(sale(1, 0, 1, 743, 744, 0))),
-        denial(book.offer(sale(1, 0, 0, 0, 0, 0))),
-        denial(book.offer(sale(1, 0, 1, 0, 0, 16_000_001))),
-        denial(book.offer(sale(65_535, 1, 1, 0, 0, 1))),
-        denial(book.offer(sale(1, 0, 1, 1, 0, 1))),
-        denial(book.offer(sale(65_535, 0, 1, 0, 0, 1))),
+        grounds(book.offer(sale(1, 0, 1, 744, 743, 1))),
+        grounds(book.offer(sale(1, 0, 1, 743, 744, 0))),
+        grounds(book.offer(sale(1, 0, 0, 0, 0, 0))),
+        grounds(book.offer(sale(1, 0, 1, 0, 0, 16_000_001))),
+        grounds(book.offer(sale(65_535, 1, 1, 0, 0, 1))),
+        grounds(book.offer(sale(1, 0, 1, 1, 0, 1))),
+        grounds(book.offer(sale(65_535, 0, 1, 0, 0, 1))),
     ];
     assert_eq!(rt;
         answers,
         [
-            DONE,
-            DONE,
-            by_book(6, 0),
-            by_book(6, 0),
-            by_book(6, 0),
-            by_book(6, 0),
-            by_book(6, 0),
-            by_book(6, 0),
-            by_book(7, 0),
-            by_book(7, 0),
-            by_book(9, 0),
-            by_book(9, 0),
-            by_book(10, 0),
+            Ok(()),
+            Ok(()),
+            Err(by_book(6, 0)),
+            Err(by_book(6, 0)),
+            Err(by_book(6, 0)),
+            Err(by_book(6, 0)),
+            Err(by_book(6, 0)),
+            Err(by_book(6, 0)),
+            Err(by_book(7, 0)),
+            Err(by_book(7, 0)),
+            Err(by_book(9, 0)),
+            Err(by_book(9, 0)),
+            Err(by_book(10, 0)),
         ]
     );
     Ok(())
@@ -397,49 +402,44 @@ fn limits_of_an_offer(rt: HostRuntime) -> Result<(), Fail> {
 fn who_confirms_and_how_often(rt: HostRuntime) -> Result<(), Fail> {
     let mut book = Book::new(ten_for_seat_0()?, Pages::new(rt.alloc())?);
     let answers = [
-        denial(book.offer(sale(9, 0, 1, 0, 0, 10))),
-        denial(book.confirm(TradeNumber(8), Seat(3))),
-        denial(book.confirm(TradeNumber(8), Seat(1))),
-        denial(book.confirm(TradeNumber(9), Seat(0))),
-        denial(book.confirm(TradeNumber(9), Seat(1))),
-        denial(book.confirm(TradeNumber(9), Seat(1))),
-        denial(book.cancel(TradeNumber(8))),
+        grounds(book.offer(sale(9, 0, 1, 0, 0, 10))),
+        grounds(book.confirm(TradeNumber(8), Seat(3))),
+        grounds(book.confirm(TradeNumber(8), Seat(1))),
+        grounds(book.confirm(TradeNumber(9), Seat(0))),
+        grounds(book.confirm(TradeNumber(9), Seat(1))),
+        grounds(book.confirm(TradeNumber(9), Seat(1))),
+        grounds(book.cancel(TradeNumber(8))),
     ];
     assert_eq!(rt;
         answers,
         [
-            DONE,
-            by_book(6, 0),
-            by_book(12, 0),
-            by_book(13, 0),
-            DONE,
-            by_book(13, 0),
-            by_book(12, 0)
+            Ok(()),
+            Err(by_book(6, 0)),
+            Err(by_book(12, 0)),
+            Err(by_book(13, 0)),
+            Ok(()),
+            Err(by_book(13, 0)),
+            Err(by_book(12, 0))
         ]
     );
     Ok(())
-}
-
-// How a call that may be held back ended, or the ground of its denial.
-fn ending(answer: Result<Deal, BookFault>) -> Result<Deal, Option<Ground>> {
-    answer.map_err(|fault| Some(Ground::from(fault)))
 }
 
 #[test]
 fn held_back_by_a_layer_above(rt: HostRuntime) -> Result<(), Fail> {
     let mut book = Book::new(ten_for_seat_0()?, Pages::new(rt.alloc())?);
     let answers = [
-        ending(book.offer_from(sale(1, 0, 1, 3, 9, 11), Hour(4))),
-        ending(book.offer_from(sale(1, 0, 0, 3, 9, 11), Hour(4))),
-        ending(book.offer_from(sale(1, 0, 1, 3, 9, 11), Hour(3))),
-        ending(book.offer_from(sale(1, 0, 1, 3, 9, 11), Hour(4))),
-        ending(book.confirm_from(TradeNumber(1), Seat(0), Hour(4))),
-        ending(book.confirm_from(TradeNumber(1), Seat(1), Hour(4))),
-        ending(book.confirm_from(TradeNumber(1), Seat(1), Hour(3))),
-        ending(book.cancel_from(TradeNumber(2), Hour(4))),
-        ending(book.cancel_from(TradeNumber(1), Hour(4))),
-        ending(book.cancel_from(TradeNumber(1), Hour(3))),
-        ending(book.cancel_from(TradeNumber(1), Hour(3))),
+        grounds(book.offer_from(sale(1, 0, 1, 3, 9, 11), Hour(4))),
+        grounds(book.offer_from(sale(1, 0, 0, 3, 9, 11), Hour(4))),
+        grounds(book.offer_from(sale(1, 0, 1, 3, 9, 11), Hour(3))),
+        grounds(book.offer_from(sale(1, 0, 1, 3, 9, 11), Hour(4))),
+        grounds(book.confirm_from(TradeNumber(1), Seat(0), Hour(4))),
+        grounds(book.confirm_from(TradeNumber(1), Seat(1), Hour(4))),
+        grounds(book.confirm_from(TradeNumber(1), Seat(1), Hour(3))),
+        grounds(book.cancel_from(TradeNumber(2), Hour(4))),
+        grounds(book.cancel_from(TradeNumber(1), Hour(4))),
+        grounds(book.cancel_from(TradeNumber(1), Hour(3))),
+        grounds(book.cancel_from(TradeNumber(1), Hour(3))),
     ];
     assert_eq!(rt;
         answers,
@@ -470,11 +470,11 @@ fn four_books_over_awards(rt: HostRuntime) -> Result<(), Fail> {
         Pages::new(rt.alloc())?,
     );
     let answers = [
-        denial(pile.offer(sale(1, 0, 2, 7, 8, 4))),
-        denial(pile.confirm(TradeNumber(1), Seat(2))),
-        denial(pile.confirm(TradeNumber(1), Seat(2))),
+        grounds(pile.offer(sale(1, 0, 2, 7, 8, 4))),
+        grounds(pile.confirm(TradeNumber(1), Seat(2))),
+        grounds(pile.confirm(TradeNumber(1), Seat(2))),
     ];
-    assert_eq!(rt; answers, [DONE, DONE, by_book(13, 0)]);
+    assert_eq!(rt; answers, [Ok(()), Ok(()), Err(by_book(13, 0))]);
     assert_eq!(rt;
         [
             held(&pile, 0, 7),
@@ -501,23 +501,30 @@ fn two_books_over_figures_by_the_hour(rt: HostRuntime) -> Result<(), Fail> {
     let sheet = HourlySheet::new(SheetSize::new(2, 1)?, &column[..]);
     let mut lower = Book::new(sheet, Pages::new(rt.alloc())?);
     let below = [
-        denial(lower.offer(sale(1, 0, 1, 0, 0, 5))),
-        denial(lower.confirm(TradeNumber(1), Seat(1))),
+        grounds(lower.offer(sale(1, 0, 1, 0, 0, 5))),
+        grounds(lower.confirm(TradeNumber(1), Seat(1))),
     ];
-    assert_eq!(rt; below, [DONE, DONE]);
+    assert_eq!(rt; below, [Ok(()), Ok(())]);
     let mut pile = Book::new(lower, Pages::new(rt.alloc())?);
     // the upper book knows its own trades only, and counts on what the lower one leaves: 3 and 6
     let above = [
-        denial(pile.offer(sale(1, 1, 0, 0, 0, 6))),
-        denial(confirm_above(&mut pile, TradeNumber(1), Seat(0))),
-        denial(pile.offer(sale(2, 1, 0, 0, 0, 1))),
-        denial(confirm_above(&mut pile, TradeNumber(2), Seat(0))),
-        denial(pile.offer(sale(3, 0, 1, 0, 1, 1))),
-        denial(confirm_above(&mut pile, TradeNumber(3), Seat(1))),
+        grounds(pile.offer(sale(1, 1, 0, 0, 0, 6))),
+        grounds(confirm_above(&mut pile, TradeNumber(1), Seat(0))),
+        grounds(pile.offer(sale(2, 1, 0, 0, 0, 1))),
+        grounds(confirm_above(&mut pile, TradeNumber(2), Seat(0))),
+        grounds(pile.offer(sale(3, 0, 1, 0, 1, 1))),
+        grounds(confirm_above(&mut pile, TradeNumber(3), Seat(1))),
     ];
     assert_eq!(rt;
         above,
-        [DONE, DONE, DONE, by_book(17, 0), DONE, by_book(16, 1)]
+        [
+            Ok(()),
+            Ok(()),
+            Ok(()),
+            Err(by_book(17, 0)),
+            Ok(()),
+            Err(by_book(16, 1))
+        ]
     );
     assert_eq!(rt;
         [

@@ -44,7 +44,7 @@ impl AwardSheet {
     }
 
     // Enters an award of `kw` for every hour. Each cell takes one, and 0 kW is one. It has no hour, and so no
-    // `Place`; a pair of zone and product would make `place.pair.zone` of every reading, and one call shorter.
+    // `Place`; a pair of zone and product would make `place.pair.zone` of every reading, and three signatures shorter.
     pub fn award(
         &mut self,
         seat: Seat,
