@@ -20,7 +20,8 @@ use Rattle.division.specs.Cut.{cut_of}
 use Rattle.division.specs.Remainder.{remainder_of}
 use Rattle.division.specs.declared.rules.DivisionFault.{DivisionFault}
 use Rattle.bill.specs.Figures.{figure_of}
-use Rattle.bill.specs.Fields.{fields_of, Failing}
+use Rattle.words.specs.Fields.{fields_of}
+use Rattle.bill.specs.Fields.{Failing}
 use Rattle.bill.specs.Lines.{shares_text, denied_text}
 use Rattle.bill.specs.declared.fields.LineFault.{LineFault}
 use Rattle.bill.specs.declared.fields.LineFault.TheVariants.{Blank, NotFigure, NoMemory}

@@ -1,34 +1,17 @@
 -- The fields of a line, and what reading them answers. Assumes nothing.
---   blank b             b is a space, a tab or a carriage return
---   closed f fs         the fields fs after the field f; an empty f is no field
---   fields_after f bs   the fields of bs, the first of them begun by f
---   fields_of bs        the fields of bs, in order: its longest runs of bytes that are not blank
 --   value_of f          the value of the figure that f writes, carried as the nearest i64
 --   Values fs zs        each of the fields fs is a figure, and zs are their values in order
 --   Failing fs e        the fault e is right of the fields fs: at NotFigure k the first k - 1 are figures and the k-th is none;
 --                       a blank line is no fault here, since it gives no figures; NoMemory says nothing
-use Rattle.std.specs.Prelude.{◌≡◌, ℕ, ◌-◌, ◌<◌, ◌≤◌, Bool, true, cond, ◌||◌, List, [], ◌∷◌, ◌++◌, map, length, take, ℤ, pos, negsuc, is_some, Some, None, codes, Option, ◌==◌, slice_index_or, refl}
+use Rattle.std.specs.Prelude.{◌≡◌, ℕ, ◌-◌, ◌<◌, ◌≤◌, true, List, [], ◌∷◌, map, length, take, ℤ, pos, negsuc, is_some, Some, None, codes, Option, slice_index_or, refl}
 use Rattle.std.proofs.Common.{lit<, lit≤}
 use Rattle.std.specs.Int.{saturate_to_bits}
 use Rattle.std.specs.Option.{option_map}
 use Rattle.std.specs.List.{list_all}
+use Rattle.words.specs.Fields.{fields_of}
 use Rattle.bill.specs.Figures.{figure_of}
 use Rattle.bill.specs.declared.fields.LineFault.{LineFault}
 use Rattle.bill.specs.declared.fields.LineFault.TheVariants.{Blank, NotFigure, NoMemory}
-
-abbrev pub blank : ℕ → Bool
-blank b = b == 32 || (b == 9 || b == 13)
-
-abbrev pub closed : List ℕ → List (List ℕ) → List (List ℕ)
-closed [] fs = fs
-closed (b ∷ f) fs = (b ∷ f) ∷ fs
-
-abbrev pub fields_after : List ℕ → List ℕ → List (List ℕ)
-fields_after f [] = closed f []
-fields_after f (b ∷ bs) = cond (blank b) (closed f (fields_after [] bs)) (fields_after (f ++ b ∷ []) bs)
-
-abbrev pub fields_of : List ℕ → List (List ℕ)
-fields_of bs = fields_after [] bs
 
 abbrev pub value_of : List ℕ → Option ℤ
 value_of f = option_map (saturate_to_bits 63) (figure_of f)
@@ -40,9 +23,6 @@ abbrev pub Failing : List (List ℕ) → LineFault → Type 0
 Failing fs (NotFigure k) = (0 < k) × (k ≤ length fs) × (list_all (λ f. is_some (figure_of f)) (take (k - 1) fs) ≡ true) × (figure_of (slice_index_or fs (k - 1) []) ≡ None)
 Failing fs Blank = ⊥
 Failing fs NoMemory = Unit {0}
-
-three : fields_of (codes " 12 x  -3 ") ≡ codes "12" ∷ codes "x" ∷ codes "-3" ∷ []
-three = refl
 
 values : Values (fields_of (codes "12 -3")) (pos 12 ∷ negsuc 2 ∷ [])
 values = refl

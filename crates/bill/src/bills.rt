@@ -1,6 +1,6 @@
 ghost use Rattle.std.specs.Prelude.{◌≡◌, map, IfOk, string_bytes, MatchResult};
 ghost use Rattle.division.specs.Columns.{tenths};
-ghost use Rattle.bill.specs.Fields.{fields_of};
+ghost use Rattle.words.specs.Fields.{fields_of};
 ghost use Rattle.bill.specs.Bills.{carried, ReadAs, Unread, Answered, answer_text};
 
 use crate::fields::{LineFault, read_figures};

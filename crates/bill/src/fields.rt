@@ -1,13 +1,15 @@
-ghost use Rattle.std.specs.Prelude.{◌≡◌, ◌-◌, ◌^◌, min, Some, MatchResult};
+ghost use Rattle.std.specs.Prelude.{◌≡◌, Some, MatchResult};
 ghost use Rattle.std.specs.Int.{saturate_to_bits};
 ghost use Rattle.std.specs.Option.{option_map};
 ghost use Rattle.bill.specs.declared.fields.LineFault.TheVariants.{NoMemory};
 ghost use Rattle.bill.specs.Messages.{message_of};
-ghost use Rattle.bill.specs.Figures.{number_of, figure_of};
-ghost use Rattle.bill.specs.Fields.{blank, fields_of, Values, Failing};
+ghost use Rattle.words.specs.Fields.{fields_of};
+ghost use Rattle.bill.specs.Figures.{figure_of};
+ghost use Rattle.bill.specs.Fields.{Values, Failing};
 
 use std::alloc::{AllocError, AllocFailed, Global};
 use std::fmt;
+use words::{is_blank, number};
 
 // Why a line gives no figures.
 #[derive(Clone, Copy)]
@@ -52,23 +54,6 @@ impl<T: Drop> From<AllocFailed<T>> for LineFault {
     }
 }
 
-// The number that one or more digits write, or u64::MAX where it is larger.
-fn number(digits: &[u8]) -> Option<u64>
-    ensures { result ≡ option_map (λ n. min n (2 ^ 64 - 1)) (number_of digits.now) }
-{
-    if digits.is_empty() {
-        return None;
-    }
-    let mut n: u64 = 0;
-    for b in digits {
-        if !b.is_ascii_digit() {
-            return None;
-        }
-        n = n.saturating_mul(10).saturating_add(u64::from(*b - b'0'));
-    }
-    Some(n)
-}
-
 // The integer that a field writes: an optional '-', then digits. Past 64 bits it is the nearest i64.
 fn figure(field: &[u8]) -> Option<i64>
     ensures { result ≡ option_map (saturate_to_bits 63) (figure_of field.now) }
@@ -77,12 +62,6 @@ fn figure(field: &[u8]) -> Option<i64>
         [b'-', digits @ ..] => number(digits).map(|n| 0i64.saturating_sub_unsigned(n)),
         _ => number(field).map(|n| 0i64.saturating_add_unsigned(n)),
     }
-}
-
-fn is_blank(b: u8) -> bool
-    ensures { result ≡ blank b }
-{
-    matches!(b, b' ' | b'\t' | b'\r')
 }
 
 // The figures of a line, in order.

@@ -1,6 +1,6 @@
 use Rattle.std.proofs.Common.{vec_items, string_bytes}
 use Rattle.division.specs.Columns.{tenths}
-use Rattle.bill.specs.Fields.{fields_of}
+use Rattle.words.specs.Fields.{fields_of}
 use Rattle.bill.proofs.Clipping.{both}
 use Rattle.bill.proofs.bills.answers.Goals as goal
 

@@ -6,9 +6,11 @@ use Rattle.std.proofs.lemmas.Iterator.{YieldsList}
 use Rattle.std.proofs.lemmas.Iterator.Consumers.{YieldsList-from_filter, YieldsList-turn, YieldsList-so_far, YieldsList-end}
 use Rattle.std.proofs.lemmas.Iterator.Splits.{YieldsList-from_slice_split}
 use Rattle.std.proofs.lemmas.List.{get_or_default}
-use Rattle.bill.specs.Fields.{blank, fields_of, value_of, Values, Failing}
+use Rattle.words.specs.Fields.{blank, fields_of}
+use Rattle.bill.specs.Fields.{value_of, Values, Failing}
 use Rattle.bill.specs.declared.fields.LineFault.TheVariants.{NotFigure}
-use Rattle.bill.proofs.Cuts.{some, pieces, fails}
+use Rattle.words.proofs.Cuts.{some, pieces}
+use Rattle.bill.proofs.Cuts.{fails}
 use Rattle.bill.proofs.fields.read_figures.Goals as goal
 use Rattle.bill.proofs.fields.read_figures.Goals.{After-next}
 

@@ -1,7 +1,7 @@
 use Rattle.std.proofs.Common.{ℤ, vec_items, sym, ◌∙◌, subst, w64, SFits, rules}
 use Rattle.std.proofs.lemmas.Int.{to_z-of_z}
 use Rattle.division.specs.Columns.{tenths}
-use Rattle.bill.specs.Fields.{fields_of}
+use Rattle.words.specs.Fields.{fields_of}
 use Rattle.bill.specs.Bills.{ReadAs}
 use Rattle.bill.proofs.Answering.{read_as}
 use Rattle.bill.proofs.bills.Bill.read.Goals as goal

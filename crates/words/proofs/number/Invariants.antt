@@ -1,6 +1,6 @@
 use Rattle.std.proofs.Common.{◌≡◌, ℕ, ◌-◌, ◌^◌, min, drop}
-use Rattle.bill.specs.Figures.{number_after}
-use Rattle.bill.proofs.fields.number.Given as goal
+use Rattle.words.specs.Numbers.{number_after}
+use Rattle.words.proofs.number.Given as goal
 
 -- what the digits so far write, which n carries, goes on to what they all write
 abbrev pub invariant-loop-b : goal.invariant-loop-b
