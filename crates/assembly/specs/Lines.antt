@@ -10,7 +10,6 @@
 --   judged o fs       the fault of the fields fs, where the letter has the limits o: an unknown letter first
 --   OfKind k fs a     a is what the letter k and then the fields fs say: an entry of that kind, whose numbers the fields write, or
 --                     the fault
---   letter_of f       the letter that the field f is, if it is one byte
 --   limits_at f       the limits of the kind whose letter the field f is
 --   comment f         the field f begins with '#'
 --   IsEntryOf fs a    a is what a line with the fields fs says: none where it has no field, or the first begins with '#'; an entry,
@@ -72,3 +71,19 @@ IsEntryOf [] (Err e) = ⊥
 IsEntryOf (f ∷ fs) (Ok None) = comment f ≡ true
 IsEntryOf (f ∷ fs) (Ok (Some e)) = (f ≡ kind_of e ∷ []) × (map number_of fs ≡ map Some (figures_of e))
 IsEntryOf (f ∷ fs) (Err e) = (comment f ≡ false) × (judged (limits_at f) fs ≡ Some e)
+
+-- C 7 1
+confirm : IsEntryOf (fields_of (codes "C 7 1")) (Ok (Some (Confirm (record { number = record { 0 = 7 }; seat = record { 0 = 1 } }))))
+confirm = (refl, refl)
+
+blank_line : IsEntryOf (fields_of (codes " ")) (Ok None)
+blank_line = tt
+
+letter_first : IsEntryOf (fields_of (codes "Z no")) (Err Unknown)
+letter_first = (refl, refl)
+
+count_next : IsEntryOf (fields_of (codes "C no")) (Err (Count 2))
+count_next = (refl, refl)
+
+field_last : IsEntryOf (fields_of (codes "C 7 256")) (Err (Field 2 255))
+field_last = (refl, refl)

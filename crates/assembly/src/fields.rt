@@ -12,8 +12,8 @@ fn is_blank(b: u8) -> bool
     matches!(b, b' ' | b'\t' | b'\r')
 }
 
-// The first fields of a line, in order.
-pub(crate) fn fields_of(line: &[u8]) -> ArrayVec<&[u8], MOST>
+// The first fields of a line, in order: all of them, where there are no more than ten.
+pub(crate) fn first_fields(line: &[u8]) -> ArrayVec<&[u8], MOST>
     ensures { map (λ f. f.now) result.items ≡ take 10 (fields_of line.now) }
 {
     let mut fields = ArrayVec::new();

@@ -13,16 +13,7 @@ use records::{Amount, Confirmation, LoadSet, MonthSet};
 pub(crate) fn month(fields: &[&[u8]]) -> Result<MonthSet, LineFault>
     ensures { FieldsOf month_limits month_figures (map (λ f. f.now) fields.now) result }
 {
-    let [
-        seats,
-        zones,
-        hours,
-        tmnsr,
-        tmor,
-        capacity,
-        factor,
-    ] = fields
-    else {
+    let [seats, zones, hours, tmnsr, tmor, capacity, factor] = fields else {
         return Err(LineFault::Count(7));
     };
     Ok(MonthSet {
@@ -55,17 +46,7 @@ pub(crate) fn amount(fields: &[&[u8]]) -> Result<Amount, LineFault>
 pub(crate) fn offer(fields: &[&[u8]]) -> Result<Offer, LineFault>
     ensures { FieldsOf offer_limits offer_figures (map (λ f. f.now) fields.now) result }
 {
-    let [
-        number,
-        seller,
-        buyer,
-        zone,
-        product,
-        first,
-        last,
-        kw,
-    ] = fields
-    else {
+    let [number, seller, buyer, zone, product, first, last, kw] = fields else {
         return Err(LineFault::Count(8));
     };
     Ok(Offer {

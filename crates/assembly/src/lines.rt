@@ -3,7 +3,7 @@ ghost use Rattle.assembly.specs.Fields.{fields_of};
 ghost use Rattle.assembly.specs.Lines.{OfKind, IsEntryOf};
 
 use crate::faults::LineFault;
-use crate::fields;
+use crate::fields::first_fields;
 use crate::kinds::{amount, confirmation, hour, load, month, nothing, number, offer};
 use records::Entry;
 
@@ -44,5 +44,5 @@ fn read(fields: &[&[u8]]) -> Result<Option<Entry>, LineFault>
 pub fn entry_of(line: &[u8]) -> Result<Option<Entry>, LineFault>
     ensures { IsEntryOf (fields_of line.now) result }
 {
-    read(&fields::fields_of(line))
+    read(&first_fields(line))
 }

@@ -7,4 +7,4 @@ use Rattle.assembly.proofs.lines.entry_of.Goals as goal
 pub returns : goal.returns
 returns c =
     taken (fields_of c.args.line.now) c.read.result
-    (subst (λ (fs : List (List ℕ)). IsEntryOf fs c.read.result) (ap (map (λ (f : Bor (List ℕ)). f.now)) c.deref.ensures.0 ∙ c.fields_of.ensures) c.read.ensures)
+    (subst (λ (fs : List (List ℕ)). IsEntryOf fs c.read.result) (ap (map (λ (f : Bor (List ℕ)). f.now)) c.deref.ensures.0 ∙ c.first_fields.ensures) c.read.ensures)

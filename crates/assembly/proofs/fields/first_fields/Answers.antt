@@ -8,8 +8,8 @@ use Rattle.std.proofs.lemmas.Iterator.Splits.{YieldsList-from_slice_split}
 use Rattle.std.proofs.lemmas.List.{length-map, take_all}
 use Rattle.assembly.specs.Fields.{blank, fields_of}
 use Rattle.assembly.proofs.Cuts.{some, pieces}
-use Rattle.assembly.proofs.fields.fields_of.Goals as goal
-use Rattle.assembly.proofs.fields.fields_of.Goals.{After-next}
+use Rattle.assembly.proofs.fields.first_fields.Goals as goal
+use Rattle.assembly.proofs.fields.first_fields.Goals.{After-next}
 
 -- what the list fs has after the items xs: the next of it, or nothing
 abbrev Left : List (List ℕ) → List (Bor (List ℕ)) → Option (Bor (List ℕ)) → Type 0
