@@ -1,11 +1,11 @@
 -- The first ten fields of a line say the same as all of them, since no kind has more than eight. Assumes nothing.
-use Rattle.std.proofs.Common.{◌≡◌, ℕ, ◌+◌, ◌<◌, ◌≤◌, Bool, true, false, cond, List, [], ◌∷◌, map, length, take, Some, None, Ok, Err, Option, Result, ◌==◌, sym, refl, ap, ◌∙◌, subst, inl, inr, arith}
+use Rattle.std.proofs.Common.{◌≡◌, ℕ, ◌≤◌, Bool, true, false, cond, List, [], ◌∷◌, map, length, take, Some, None, Ok, Err, Option, Result, ◌==◌, sym, refl, ap, ◌∙◌, subst, inl, inr, arith}
 use Rattle.std.proofs.Common.{lit≤}
 use Rattle.std.proofs.lemmas.Bool.{cases_lt}
 use Rattle.std.proofs.lemmas.List.{length-map, length-take, take_all}
 use Rattle.records.specs.declared.entries.Entry.{Entry}
 use Rattle.records.specs.declared.entries.Entry.TheVariants.{Month, Award, Offer, Confirm, Cancel, Open, Tell, Load, Close, Abandon}
-use Rattle.assembly.specs.Numbers.{number_of}
+use Rattle.words.specs.Numbers.{number_of}
 use Rattle.assembly.specs.Kinds.{month_limits, amount_limits, offer_limits, confirm_limits, word_limits, load_limits, limits_of, figures_of}
 use Rattle.assembly.specs.Lines.{fault_of, judged, limits_at, IsEntryOf}
 use Rattle.assembly.specs.declared.faults.LineFault.{LineFault}

@@ -1,16 +1,11 @@
 ghost use Rattle.std.specs.Prelude.{◌≡◌, map, take};
-ghost use Rattle.assembly.specs.Fields.{blank, fields_of};
+ghost use Rattle.words.specs.Fields.{fields_of};
 
 use arrayvec::ArrayVec;
+use words::is_blank;
 
 // The most fields of a line that are looked at: the letter, the eight of an offer, and one too many.
 pub(crate) const MOST: usize = 10;
-
-fn is_blank(b: u8) -> bool
-    ensures { result ≡ blank b }
-{
-    matches!(b, b' ' | b'\t' | b'\r')
-}
 
 // The first fields of a line, in order: all of them, where there are no more than ten.
 pub(crate) fn first_fields(line: &[u8]) -> ArrayVec<&[u8], MOST>

@@ -1,5 +1,5 @@
 ghost use Rattle.std.specs.Prelude.{map};
-ghost use Rattle.assembly.specs.Fields.{fields_of};
+ghost use Rattle.words.specs.Fields.{fields_of};
 ghost use Rattle.assembly.specs.Lines.{OfKind, IsEntryOf};
 
 use crate::faults::LineFault;

@@ -6,8 +6,8 @@ use Rattle.std.proofs.lemmas.Iterator.{YieldsList}
 use Rattle.std.proofs.lemmas.Iterator.Consumers.{YieldsList-from_filter, YieldsList-turn, YieldsList-so_far, YieldsList-end}
 use Rattle.std.proofs.lemmas.Iterator.Splits.{YieldsList-from_slice_split}
 use Rattle.std.proofs.lemmas.List.{length-map, take_all}
-use Rattle.assembly.specs.Fields.{blank, fields_of}
-use Rattle.assembly.proofs.Cuts.{some, pieces}
+use Rattle.words.specs.Fields.{blank, fields_of}
+use Rattle.words.proofs.Cuts.{some, pieces}
 use Rattle.assembly.proofs.fields.first_fields.Goals as goal
 use Rattle.assembly.proofs.fields.first_fields.Goals.{After-next}
 

@@ -1,5 +1,5 @@
 use Rattle.std.proofs.Common.{rules, [], ◌∷◌, map, ◌≡◌, ℕ, List, Bor, Some, subst, refl, arith}
-use Rattle.assembly.specs.Numbers.{number_of}
+use Rattle.words.specs.Numbers.{number_of}
 use Rattle.assembly.specs.Kinds.{offer_limits}
 use Rattle.assembly.specs.Lines.{fault_of}
 use Rattle.assembly.specs.declared.faults.LineFault.TheVariants.{Field}

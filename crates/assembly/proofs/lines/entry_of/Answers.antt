@@ -1,5 +1,5 @@
 use Rattle.std.proofs.Common.{List, ℕ, subst, ap, ◌∙◌, map, Bor}
-use Rattle.assembly.specs.Fields.{fields_of}
+use Rattle.words.specs.Fields.{fields_of}
 use Rattle.assembly.specs.Lines.{IsEntryOf}
 use Rattle.assembly.proofs.Taking.{taken}
 use Rattle.assembly.proofs.lines.entry_of.Goals as goal
