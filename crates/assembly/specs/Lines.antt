@@ -14,10 +14,10 @@
 --   comment f         the field f begins with '#'
 --   IsEntryOf fs a    a is what a line with the fields fs says: none where it has no field, or the first begins with '#'; an entry,
 --                     of which the first field is the letter, and of whose numbers each is written by one of the others; or the fault
-use Rattle.std.specs.Prelude.{◌≡◌, ℕ, suc, ◌≤◌, Bool, true, false, leb, cond, List, [], ◌∷◌, map, length, Some, None, Ok, Err, codes, Option, Result, ◌==◌, nat_eq, refl}
+use Rattle.std.specs.Prelude.{◌≡◌, ℕ, suc, ◌≤◌, Bool, true, false, leb, cond, List, [], ◌∷◌, map, length, Some, None, Ok, Err, codes, Option, Result, ◌==◌, refl}
 use Rattle.records.specs.Layout.{kind_of}
 use Rattle.records.specs.declared.entries.Entry.{Entry}
-use Rattle.records.specs.declared.entries.Entry.TheVariants.{Confirm, Close}
+use Rattle.records.specs.declared.entries.Entry.TheVariants.{Confirm}
 use Rattle.assembly.specs.Numbers.{number_of}
 use Rattle.assembly.specs.Fields.{fields_of}
 use Rattle.assembly.specs.Kinds.{limits_of, figures_of}
