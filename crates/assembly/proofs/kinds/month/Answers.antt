@@ -1,29 +1,28 @@
-use Rattle.std.proofs.Common.{rules, [], ◌∷◌, map, ◌≡◌, ℕ, List, Bor, Some, subst, refl, arith}
-use Rattle.words.specs.Numbers.{number_of}
+use Rattle.std.proofs.Common.{rules, refl}
 use Rattle.assembly.specs.Kinds.{month_limits}
-use Rattle.assembly.specs.Lines.{fault_of}
 use Rattle.assembly.specs.declared.faults.LineFault.TheVariants.{Field}
-use Rattle.assembly.proofs.Spread.{spread}
+use Rattle.assembly.proofs.Spread.{fault_from, numbers_from}
 use Rattle.assembly.proofs.kinds.month.Goals as goal
+
+pub returns-in_err-four-2 : goal.returns-in_err-four-2
+returns-in_err-four-2 c =
+    let fault = fault_from month_limits c.args.fields.now 7 (Field 5 4294967295) c.in-len7.len_at_least c.in-len7.len_below
+    (rw (c.in_ok-one.ensures.2, c.in_ok-one-2.ensures.2, c.in_ok-two.ensures.2, c.in_ok-four.ensures.2, c.in_err-four-2.ensures.1) refl) in
+    search (rules, fault)
 
 pub returns-in_err-four-3 : goal.returns-in_err-four-3
 returns-in_err-four-3 c =
-    let whole = spread c.args.fields.now (record { ref_ptr = (0, 0); now = [] }) 7 (omega (arith, c.in-len7.len_at_least, c.in-len7.len_below)) in
-    let fault : fault_of month_limits (map (λ f. f.now) c.args.fields.now) ≡ Some (Field 6 4294967295)
-    = subst (λ (xs : List (Bor (List ℕ))). fault_of month_limits (map (λ f. f.now) xs) ≡ Some (Field 6 4294967295)) whole
+    let fault = fault_from month_limits c.args.fields.now 7 (Field 6 4294967295) c.in-len7.len_at_least c.in-len7.len_below
     (rw (c.in_ok-one.ensures.2, c.in_ok-one-2.ensures.2, c.in_ok-two.ensures.2, c.in_ok-four.ensures.2, c.in_ok-four-2.ensures.2, c.in_err-four-3.ensures.1) refl) in
     search (rules, fault)
 
 pub returns-in_err-two-2 : goal.returns-in_err-two-2
 returns-in_err-two-2 c =
-    let whole = spread c.args.fields.now (record { ref_ptr = (0, 0); now = [] }) 7 (omega (arith, c.in-len7.len_at_least, c.in-len7.len_below)) in
-    let fault : fault_of month_limits (map (λ f. f.now) c.args.fields.now) ≡ Some (Field 7 65535)
-    = subst (λ (xs : List (Bor (List ℕ))). fault_of month_limits (map (λ f. f.now) xs) ≡ Some (Field 7 65535)) whole
+    let fault = fault_from month_limits c.args.fields.now 7 (Field 7 65535) c.in-len7.len_at_least c.in-len7.len_below
     (rw (c.in_ok-one.ensures.2, c.in_ok-one-2.ensures.2, c.in_ok-two.ensures.2, c.in_ok-four.ensures.2, c.in_ok-four-2.ensures.2, c.in_ok-four-3.ensures.2, c.in_err-two-2.ensures.1) refl) in
     search (rules, fault)
 
 pub returns : goal.returns
 returns c =
-    let whole = spread c.args.fields.now (record { ref_ptr = (0, 0); now = [] }) 7 (omega (arith, c.in-len7.len_at_least, c.in-len7.len_below)) in
-    subst (λ (xs : List (Bor (List ℕ))). map number_of (map (λ f. f.now) xs) ≡ Some c.in_ok-one.field-0 ∷ Some c.in_ok-one-2.field-0 ∷ Some c.in_ok-two.field-0 ∷ Some c.in_ok-four.field-0 ∷ Some c.in_ok-four-2.field-0 ∷ Some c.in_ok-four-3.field-0 ∷ Some c.in_ok-two-2.field-0 ∷ []) whole
+    numbers_from c.args.fields.now 7 _ c.in-len7.len_at_least c.in-len7.len_below
     (rw (c.in_ok-one.ensures.0, c.in_ok-one-2.ensures.0, c.in_ok-two.ensures.0, c.in_ok-four.ensures.0, c.in_ok-four-2.ensures.0, c.in_ok-four-3.ensures.0, c.in_ok-two-2.ensures.0) refl)
