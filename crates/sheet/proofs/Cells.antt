@@ -3,8 +3,8 @@ use Rattle.std.proofs.Common.{◌≡◌, ℕ, ◌+◌, ◌<◌, ◌≤◌, false
 use Rattle.std.proofs.lemmas.Bool.{and_left, le-ltb, cases_lt}
 use Rattle.sheet.specs.Limits.{max_kw}
 use Rattle.sheet.specs.declared.places.Place.{Place}
-use Rattle.sheet.specs.Tables.{Table, within, filled, filled_up, filled_at, Bounded}
-use Rattle.sheet.specs.Sums.{steps_on, filled_rises}
+use Rattle.sheet.specs.Tables.{Table, within, filled, filled_up, filled_at, total_at, Bounded}
+use Rattle.sheet.specs.Sums.{steps_on, filled_rises, added_blank}
 
 cell-le : (t : Table) (s : ℕ) (w : Place) (v : ℕ) → s < t.seats → t.cell s w ≡ Some v → v ≤ filled_at t w
 cell-le t s w v lt e =
@@ -23,3 +23,7 @@ cell_small t b s w v e = ⊎_elim
     let is : Some v ≡ None = sym e ∙ b.outside s w out in
     let z : ◌≡◌ {A = ℕ} 0 1 = cc in absurd (omega (arith, z)))
     (cases_lt s t.seats)
+
+-- one seat's blank makes the total blank
+pub blank_total : (t : Table) (w : Place) (s : ℕ) → s < t.seats → t.cell s w ≡ None → total_at t w ≡ None
+blank_total t w s lt e = added_blank (λ (n : ℕ). t.cell n w) s t.seats lt e

@@ -30,6 +30,7 @@ pub trait Sheet {
         ensures { lawful self.now → kilowatts result ≡ (table self.now).cell seat.0 place };
 
     // What all seats hold together; none where the cell of one is blank.
+    #[tactic(auto, using(crate::proofs::Cells::blank_total))]
     fn total(&self, place: Place) -> Option<Kw>
         ensures { lawful self.now → kilowatts result ≡ total_at (table self.now) place }
     {

@@ -1,6 +1,5 @@
 use Rattle.std.proofs.Common.{◌≡◌, ℕ, ◌+◌, ◌<◌, Some, Option, sym, ap, ◌∙◌, arith}
-use Rattle.sheet.specs.Tables.{kilowatts}
-use Rattle.sheet.specs.Sums.{added_next, added_fits, added_blank}
+use Rattle.sheet.specs.Sums.{added_next, added_fits}
 use Rattle.sheet.proofs.sheets.Sheet.total.Goals as goal
 
 pub loop-seat-preserved : goal.loop-seat-preserved
@@ -14,10 +13,3 @@ loop-seat-preserved g c ok =
     let b = (g.met.Self.Sheet.bounded c.args.self.now ok).small c.args.place in
     let e : c.saturating_add-sum.result ≡ c.loop-seat.sum + kw = omega arith in
     added_next f c.loop-seat.seat _ _ (c.loop-seat.invariant ok) here ∙ ap (λ (n : ℕ). Some n) (sym e)
-
-pub returns-in_err-cell : goal.returns-in_err-cell
-returns-in_err-cell g c ok =
-    let t = g.Self.Sheet.table c.args.self.now in
-    let f : ℕ → Option ℕ = λ s. t.cell s c.args.place in
-    let lt : c.loop-seat.seat < t.seats = omega (arith, c.seats-seats.ensures ok, c.loop-seat-test.true) in
-    ap kilowatts c.from_residual.ensures ∙ sym (added_blank f c.loop-seat.seat t.seats lt (sym (c.in_err-cell.ensures ok)))
