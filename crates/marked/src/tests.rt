@@ -119,6 +119,7 @@ fn limits_of_terms(rt: HostRuntime) {
         }),
         REFUSED
     );
+    assert_eq!(rt; Layer::Month.letter(), 'm');
 }
 
 #[test]

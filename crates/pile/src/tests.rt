@@ -132,6 +132,7 @@ fn awards(rt: HostRuntime) -> Result<(), Fail> {
             Some(Kw(0))
         ]
     );
+    assert_eq!(rt; [Layer::Sheet.letter(), Layer::Book.letter()], ['s', 'b']);
     Ok(())
 }
 
