@@ -27,11 +27,9 @@ impl DivisionRule for LargestRemainder {
     ghost keeps = { λ rule t ls f. remainder_keeps t ls f };
 
     fn share_out(&self, division: &Division<'_>) -> [Cents; MAX_SEATS] {
-        let Floors {
-            mut shares,
-            rests,
-            left,
-        } = division.floors();
+        let mut shares = [Cents(0); MAX_SEATS];
+        let mut rests = [0; MAX_SEATS];
+        let left = division.round_down(&mut shares, &mut rests);
         let rests = &rests[..division.loads.len()];
         for (s, share) in shares[..rests.len()].iter_mut().enumerate() {
             share.0 += i64::from(ahead_of(rests, s) < left);
@@ -40,22 +38,13 @@ impl DivisionRule for LargestRemainder {
     }
 }
 
-// The shares rounded down and the remainders, one a seat, and the cents that are left then.
-struct Floors {
-    shares: [Cents; MAX_SEATS],
-    rests: [u64; MAX_SEATS],
-    left: u64,
-}
-
 impl Division<'_> {
-    // Every share rounded down.
-    fn floors(&self) -> Floors
-        ensures shares { take (length self.now.loads.now) result.shares ≡ cents_of (map pos (map (floor_at self.now.total (tenths self.now.loads.now)) (range_with_len 0 (length self.now.loads.now)))) }
-        ensures rests { take (length self.now.loads.now) result.rests ≡ rests_of self.now.total (tenths self.now.loads.now) }
-        ensures left { result.left ≡ left_over self.now.total (tenths self.now.loads.now) }
+    // Writes the share of each seat, rounded down, and the remainder; answers the cents that are left then.
+    fn round_down(&self, shares: &mut [Cents; MAX_SEATS], rests: &mut [u64; MAX_SEATS]) -> u64
+        ensures shares { take (length self.now.loads.now) shares.new ≡ cents_of (map pos (map (floor_at self.now.total (tenths self.now.loads.now)) (range_with_len 0 (length self.now.loads.now)))) }
+        ensures rests { take (length self.now.loads.now) rests.new ≡ rests_of self.now.total (tenths self.now.loads.now) }
+        ensures left { result ≡ left_over self.now.total (tenths self.now.loads.now) }
     {
-        let mut shares = [Cents(0); MAX_SEATS];
-        let mut rests = [0; MAX_SEATS];
         let mut left = self.total;
         for (s, load) in self.loads.iter().enumerate() {
             let due = self.due(*load);
@@ -64,11 +53,7 @@ impl Division<'_> {
             shares[s] = Cents(floor as i64);
             rests[s] = due % self.all;
         }
-        Floors {
-            shares,
-            rests,
-            left,
-        }
+        left
     }
 
     // What is due to a load, before it is divided by all loads.
@@ -90,6 +75,6 @@ fn ahead_of(rests: &[u64], s: usize) -> u64
     rests
         .iter()
         .enumerate()
-        .map(|(k, rest)| u64::from(*rest > own || *rest == own && k < s))
+        .map(|(k, rest)| u64::from((*rest > own) | (*rest == own) & (k < s)))
         .sum()
 }

@@ -23,9 +23,9 @@ loop-s-init c =
     let d = c.args.division.now in
     let n = length d.loads.now in
     let f : ℕ → Cents = λ (k : ℕ). record { 0 = pos (floor_at d.total (tenths d.loads.now) k) } in
-    let m = many d.total d.loads.now c.floors-left.result.rests c.floors-left.ensures.rests in
-    let e : take (length (take n c.floors-left.result.rests)) c.floors-left.result.shares ≡ map f (range_with_len 0 n)
-    = ap (λ (k : ℕ). take k c.floors-left.result.shares) m ∙ (c.floors-left.ensures.shares ∙ sym (in_cents (floor_at d.total (tenths d.loads.now)) n)) in (
+    let m = many d.total d.loads.now c.round_down-left.new.rests c.round_down-left.ensures.rests in
+    let e : take (length (take n c.round_down-left.new.rests)) c.round_down-left.new.shares ≡ map f (range_with_len 0 n)
+    = ap (λ (k : ℕ). take k c.round_down-left.new.shares) m ∙ (c.round_down-left.ensures.shares ∙ sym (in_cents (floor_at d.total (tenths d.loads.now)) n)) in (
       ap length e ∙ length-map-range_with_len f 0 n,
       λ k h. absurd (omega arith),
       λ k _ h. ap (λ (xs : List Cents). get_or xs k nothing) e ∙ get_or-map-range_with_len f 0 n k k nothing h (omega arith),
@@ -44,16 +44,16 @@ turn c =
     let ls = tenths d.loads.now in
     let s = c.loop-s.s in
     let n = length-tenths d.loads.now in
-    let m = many d.total d.loads.now c.floors-left.result.rests c.floors-left.ensures.rests in
+    let m = many d.total d.loads.now c.round_down-left.new.rests c.round_down-left.ensures.rests in
     let light = d.fair.light s (omega arith) in
     let product = mul-le d.total (get_or ls s 0) max_total max_load d.fair.small light in
     let below = div-le_self (d.total * get_or ls s 0) (sum ls) in
     record {
       had = ap (λ (x : Cents). x.0) (c.loop-s.invariant.2 s (omega arith) (omega arith));
       extra = c.from.ensures
-          ∙ ap pos (bool_byte_is (nat_lt c.ahead_of.result c.floors-left.result.left)
-          ∙ (ap (λ (k : ℕ). bit (nat_lt k c.floors-left.result.left)) (c.ahead_of.ensures ∙ ap (λ (rs : List ℕ). ahead rs s) c.floors-left.ensures.rests)
-          ∙ ap (λ (k : ℕ). bit (nat_lt (ahead (rests_of d.total ls) s) k)) c.floors-left.ensures.left));
+          ∙ ap pos (bool_byte_is (nat_lt c.ahead_of.result c.round_down-left.result)
+          ∙ (ap (λ (k : ℕ). bit (nat_lt k c.round_down-left.result)) (c.ahead_of.ensures ∙ ap (λ (rs : List ℕ). ahead rs s) c.round_down-left.ensures.rests)
+          ∙ ap (λ (k : ℕ). bit (nat_lt (ahead (rests_of d.total ls) s) k)) c.round_down-left.ensures.left));
       small = omega arith;
       one = bit_le (nat_lt (ahead (rests_of d.total ls) s) (left_over d.total ls));
     }
@@ -70,7 +70,7 @@ loop-s-preserved c =
     let was = (get_or c.loop-s.share-items s nothing).0 in
     let v = to_z w64 (of_z w64 (to_z w64 (of_z w64 was) +ℤ to_z w64 (of_z w64 c.from.result))) in
     let here : v ≡ pos (remainder_at d.total ls s) = omega (arith, ints) in
-    let m = many d.total d.loads.now c.floors-left.result.rests c.floors-left.ensures.rests in
+    let m = many d.total d.loads.now c.round_down-left.new.rests c.round_down-left.ensures.rests in
     let lt : s < length c.loop-s.share-items = omega arith in (
       length-set c.loop-s.share-items s _ ∙ c.loop-s.invariant.0,
       below_more _ _
@@ -84,7 +84,7 @@ returns c =
     let d = c.args.division.now in
     let ls = tenths d.loads.now in
     let n = length-tenths d.loads.now in
-    let m = many d.total d.loads.now c.floors-left.result.rests c.floors-left.ensures.rests in
+    let m = many d.total d.loads.now c.round_down-left.new.rests c.round_down-left.ensures.rests in
     let f : ℕ → Cents = λ (k : ℕ). record { 0 = pos (remainder_at d.total ls k) } in
     let few : length d.loads.now ≤ length c.loop-s.share-items = omega arith in
     rw take-append-le

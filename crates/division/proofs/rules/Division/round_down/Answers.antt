@@ -10,8 +10,8 @@ use Rattle.division.specs.Remainder.{floor_at, rest_at}
 use Rattle.division.specs.Remaining.{floors-le}
 use Rattle.division.proofs.Bounds.{load-le}
 use Rattle.division.proofs.Figures.{length-tenths, tenths-at, one_more, in_cents}
-use Rattle.division.proofs.rules.Division.floors.Goals as goal
-use Rattle.division.proofs.rules.Division.floors.Goals.{After-due-due}
+use Rattle.division.proofs.rules.Division.round_down.Goals as goal
+use Rattle.division.proofs.rules.Division.round_down.Goals.{After-due-due}
 
 -- a sum over more seats is no smaller
 rises : (f : ℕ → ℕ) (s n : ℕ) → s ≤ n → sum_to f s ≤ sum_to f n

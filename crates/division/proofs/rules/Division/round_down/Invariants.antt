@@ -4,7 +4,7 @@ use Rattle.figures.specs.Limits.{max_seats}
 use Rattle.figures.specs.SeatSums.{sum_to}
 use Rattle.division.specs.Columns.{tenths}
 use Rattle.division.specs.Remainder.{floor_at, rest_at}
-use Rattle.division.proofs.rules.Division.floors.Given as goal
+use Rattle.division.proofs.rules.Division.round_down.Given as goal
 
 abbrev pub invariant-loop-s : goal.invariant-loop-s
 invariant-loop-s l =
