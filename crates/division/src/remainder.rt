@@ -1,8 +1,7 @@
-ghost use Rattle.std.specs.List.{range_with_len};
 ghost use Rattle.std.specs.Prelude.{◌≡◌, ◌*◌, ◌<◌, ◌≤◌, map, length, take, pos};
 ghost use Rattle.division.specs.Limits.{max_total, max_load};
 ghost use Rattle.division.specs.Columns.{tenths, cents_of};
-ghost use Rattle.division.specs.Remainder.{floor_at, rests_of, left_over, ahead, remainder_of, LargestRemainders};
+ghost use Rattle.division.specs.Remainder.{floors_of, rests_of, left_over, ahead, remainder_of, LargestRemainders};
 ghost use Rattle.division.specs.Remaining.{remainder_keeps};
 
 use crate::rules::{Division, DivisionRule};
@@ -41,7 +40,7 @@ impl DivisionRule for LargestRemainder {
 impl Division<'_> {
     // Writes the share of each seat, rounded down, and the remainder; answers the cents that are left then.
     fn round_down(&self, shares: &mut [Cents; MAX_SEATS], rests: &mut [u64; MAX_SEATS]) -> u64
-        ensures shares { take (length self.now.loads.now) shares.new ≡ cents_of (map pos (map (floor_at self.now.total (tenths self.now.loads.now)) (range_with_len 0 (length self.now.loads.now)))) }
+        ensures shares { take (length self.now.loads.now) shares.new ≡ cents_of (map pos (floors_of self.now.total (tenths self.now.loads.now))) }
         ensures rests { take (length self.now.loads.now) rests.new ≡ rests_of self.now.total (tenths self.now.loads.now) }
         ensures left { result ≡ left_over self.now.total (tenths self.now.loads.now) }
     {

@@ -1,4 +1,4 @@
-use Rattle.std.proofs.Common.{◌≡◌, ℕ, ◌==◌, ◌&&◌, ◌||◌, ◌^◌, ◌<◌, Bool, List, map, length, get_or, sum, nat_lt, sym, ap, ◌∙◌, zero-add, arith, rules, tests}
+use Rattle.std.proofs.Common.{◌≡◌, ℕ, ◌==◌, ◌&&◌, ◌||◌, ◌^◌, ◌<◌, List, map, length, get_or, sum, nat_lt, sym, ap, ◌∙◌, zero-add, arith, rules, tests}
 use mathlib.Core.List.{map-map}
 use mir.Val.{bool_byte}
 use Rattle.std.specs.List.{range_with_len, enumerate_from}
@@ -6,7 +6,7 @@ use Rattle.std.proofs.lemmas.Iterator.{YieldsList-from_slice, YieldsList-from_ma
 use Rattle.std.proofs.lemmas.Iterator.Consumers.{YieldsList-from_enumerate, sum_from_yields_List, fits_from_yields_list}
 use Rattle.std.proofs.lemmas.List.FromFn.{fill_by_all, length-enumerate_from, get_or-enumerate_from}
 use Rattle.division.specs.Remainder.{stands, ahead}
-use Rattle.figures.specs.SeatSums.{sum_to, bit, bool_byte_is, bit_le, sum_to-le, sum_to_same, sum_to_one, count_places}
+use Rattle.figures.specs.SeatSums.{bit, bool_byte_is, bit_le, sum_to-le, sum_to_same, sum_to_one, count_places}
 use Rattle.division.proofs.remainder.ahead_of.Goals as goal
 
 placed : (rs : List ℕ) → enumerate_from 0 rs ≡ map (λ (k : ℕ). (k, get_or rs k 0)) (range_with_len 0 (length rs))

@@ -1,4 +1,4 @@
-use Rattle.std.proofs.Common.{◌≡◌, ℕ, ◌+◌, ◌*◌, ◌<◌, ◌≤◌, ◌≢◌, List, map, length, get_or, take, sum, ℤ, pos, ◌+ℤ◌, sym, ap, ◌∙◌, nat_lt, div-le_self, arith, get_or-set_other, get_or-set_same, w64, to_z, of_z, below_more}
+use Rattle.std.proofs.Common.{◌≡◌, ℕ, ◌*◌, ◌<◌, ◌≤◌, ◌≢◌, List, map, length, get_or, take, sum, ℤ, pos, ◌+ℤ◌, sym, ap, ◌∙◌, nat_lt, div-le_self, arith, get_or-set_other, get_or-set_same, w64, to_z, of_z, below_more}
 use Rattle.std.specs.List.{range_with_len}
 use Rattle.std.proofs.lemmas.Int.{ints}
 use Rattle.std.proofs.lemmas.Nat.{mul-le}
@@ -25,7 +25,10 @@ loop-s-init c =
     let f : ℕ → Cents = λ (k : ℕ). record { 0 = pos (floor_at d.total (tenths d.loads.now) k) } in
     let m = many d.total d.loads.now c.round_down-left.new.rests c.round_down-left.ensures.rests in
     let e : take (length (take n c.round_down-left.new.rests)) c.round_down-left.new.shares ≡ map f (range_with_len 0 n)
-    = ap (λ (k : ℕ). take k c.round_down-left.new.shares) m ∙ (c.round_down-left.ensures.shares ∙ sym (in_cents (floor_at d.total (tenths d.loads.now)) n)) in (
+    = ap (λ (k : ℕ). take k c.round_down-left.new.shares) m
+    ∙ (c.round_down-left.ensures.shares
+    ∙ (sym (in_cents (floor_at d.total (tenths d.loads.now)) (length (tenths d.loads.now)))
+    ∙ ap (λ (k : ℕ). map f (range_with_len 0 k)) (length-tenths d.loads.now))) in (
       ap length e ∙ length-map-range_with_len f 0 n,
       λ k h. absurd (omega arith),
       λ k _ h. ap (λ (xs : List Cents). get_or xs k nothing) e ∙ get_or-map-range_with_len f 0 n k k nothing h (omega arith),
@@ -88,7 +91,7 @@ returns c =
     let f : ℕ → Cents = λ (k : ℕ). record { 0 = pos (remainder_at d.total ls k) } in
     let few : length d.loads.now ≤ length c.loop-s.share-items = omega arith in
     rw take-append-le
-        (take_all (length d.loads.now) c.loop-s.share-items (omega arith)
-        ∙ (fill_by_all f c.loop-s.share-items (length d.loads.now) nothing c.loop-s.invariant.0 (λ k h. c.loop-s.invariant.1 k (omega arith))
-        ∙ (ap (λ (k : ℕ). map f (range_with_len 0 k)) (sym n)
-        ∙ in_cents (remainder_at d.total ls) (length ls))))
+    (take_all (length d.loads.now) c.loop-s.share-items (omega arith)
+    ∙ (fill_by_all f c.loop-s.share-items (length d.loads.now) nothing c.loop-s.invariant.0 (λ k h. c.loop-s.invariant.1 k (omega arith))
+    ∙ (ap (λ (k : ℕ). map f (range_with_len 0 k)) (sym n)
+    ∙ in_cents (remainder_at d.total ls) (length ls))))

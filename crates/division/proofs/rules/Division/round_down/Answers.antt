@@ -17,9 +17,9 @@ use Rattle.division.proofs.rules.Division.round_down.Goals.{After-due-due}
 rises : (f : ℕ → ℕ) (s n : ℕ) → s ≤ n → sum_to f s ≤ sum_to f n
 rises f s zero h = let e : s ≡ 0 = omega arith in omega (arith, ap (sum_to f) e)
 rises f s (suc n) h = elim (cases_lt s (suc n)) [
-    | inl l ↦ let i = rises f s n (omega arith) in omega (arith, sum_to_suc f n)
-    | inr g ↦ let e : s ≡ suc n = omega arith in omega (arith, ap (sum_to f) e)
-  ]
+  | inl l ↦ let i = rises f s n (omega arith) in omega (arith, sum_to_suc f n)
+  | inr g ↦ let e : s ≡ suc n = omega arith in omega (arith, ap (sum_to f) e)
+]
 
 -- this seat's share rounded down, which is among the cents that are left
 record Turn (t : ℕ) (ls : List ℕ) (s left floor : ℕ) : Type 0 where
@@ -79,7 +79,9 @@ returns c =
     let e : c.loop-s.s ≡ length ls = omega arith in
     let h : length d.loads.now ≡ c.loop-s.s = omega arith in
     record {
-      shares = rw h (c.loop-s.invariant.3 ∙ in_cents (floor_at d.total ls) c.loop-s.s);
+      shares = rw h (c.loop-s.invariant.3
+          ∙ (ap (λ (k : ℕ). map (λ (j : ℕ). record { 0 = pos (floor_at d.total ls j) }) (range_with_len 0 k)) e
+          ∙ in_cents (floor_at d.total ls) (length ls)));
       rests = rw h (c.loop-s.invariant.4 ∙ ap (λ (k : ℕ). map (rest_at d.total ls) (range_with_len 0 k)) e);
       left = (let q = ap (sum_to (floor_at d.total ls)) e in omega arith);
     }
