@@ -1,5 +1,6 @@
 -- The largest-remainder rule. Assumes nothing.
 --   floor_at t ls s   the share of seat s of the total t, t × load ÷ all loads, rounded down
+--   floors_of t ls    the shares of all seats, rounded down
 --   rest_at t ls s    the remainder of that division
 --   rests_of t ls     the remainders of all seats
 --   left_over t ls    the cents that are left when every seat has its share rounded down
@@ -19,6 +20,9 @@ use Rattle.division.specs.Rules.{Fair}
 
 abbrev pub floor_at : ℕ → List ℕ → ℕ → ℕ
 floor_at t ls s = t * slice_index ls s / sum ls
+
+abbrev pub floors_of : ℕ → List ℕ → List ℕ
+floors_of t ls = map (floor_at t ls) (range_with_len 0 (length ls))
 
 abbrev pub rest_at : ℕ → List ℕ → ℕ → ℕ
 rest_at t ls s = t * slice_index ls s % sum ls

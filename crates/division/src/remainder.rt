@@ -1,7 +1,7 @@
-ghost use Rattle.std.specs.Prelude.{◌≡◌, ◌*◌, ◌<◌, ◌≤◌, length, take};
+ghost use Rattle.std.specs.Prelude.{◌≡◌, ◌*◌, ◌<◌, ◌≤◌, map, length, take, pos};
 ghost use Rattle.division.specs.Limits.{max_total, max_load};
-ghost use Rattle.division.specs.Columns.{tenths};
-ghost use Rattle.division.specs.Remainder.{rests_of, left_over, ahead, remainder_of, LargestRemainders};
+ghost use Rattle.division.specs.Columns.{tenths, cents_of};
+ghost use Rattle.division.specs.Remainder.{floors_of, rests_of, left_over, ahead, remainder_of, LargestRemainders};
 ghost use Rattle.division.specs.Remaining.{remainder_keeps};
 
 use crate::rules::{Division, DivisionRule};
@@ -26,40 +26,33 @@ impl DivisionRule for LargestRemainder {
     ghost keeps = { λ rule t ls f. remainder_keeps t ls f };
 
     fn share_out(&self, division: &Division<'_>) -> [Cents; MAX_SEATS] {
-        let left = division.left();
-        let rests = &division.rests()[..division.loads.len()];
         let mut shares = [Cents(0); MAX_SEATS];
-        for (s, load) in division.loads.iter().enumerate() {
-            let floor = division.due(*load) / division.all;
-            let extra = u64::from(ahead_of(rests, s) < left);
-            shares[s] = Cents((floor + extra) as i64);
+        let mut rests = [0; MAX_SEATS];
+        let left = division.round_down(&mut shares, &mut rests);
+        let rests = &rests[..division.loads.len()];
+        for (s, share) in shares[..rests.len()].iter_mut().enumerate() {
+            share.0 += i64::from(ahead_of(rests, s) < left);
         }
         shares
     }
 }
 
 impl Division<'_> {
-    // The cents that are left when every seat has its share rounded down.
-    fn left(&self) -> u64
-        ensures { result ≡ left_over self.now.total (tenths self.now.loads.now) }
+    // Writes the share of each seat, rounded down, and the remainder; answers the cents that are left then.
+    fn round_down(&self, shares: &mut [Cents; MAX_SEATS], rests: &mut [u64; MAX_SEATS]) -> u64
+        ensures shares { take (length self.now.loads.now) shares.new ≡ cents_of (map pos (floors_of self.now.total (tenths self.now.loads.now))) }
+        ensures rests { take (length self.now.loads.now) rests.new ≡ rests_of self.now.total (tenths self.now.loads.now) }
+        ensures left { result ≡ left_over self.now.total (tenths self.now.loads.now) }
     {
-        let given: u64 = self
-            .loads
-            .iter()
-            .map(|load| self.due(*load) / self.all)
-            .sum();
-        self.total - given
-    }
-
-    // The remainders of the shares, one a seat.
-    fn rests(&self) -> [u64; MAX_SEATS]
-        ensures { take (length self.now.loads.now) result ≡ rests_of self.now.total (tenths self.now.loads.now) }
-    {
-        let mut rests = [0; MAX_SEATS];
+        let mut left = self.total;
         for (s, load) in self.loads.iter().enumerate() {
-            rests[s] = self.due(*load) % self.all;
+            let due = self.due(*load);
+            let floor = due / self.all;
+            left -= floor;
+            shares[s] = Cents(floor as i64);
+            rests[s] = due % self.all;
         }
-        rests
+        left
     }
 
     // What is due to a load, before it is divided by all loads.
@@ -81,6 +74,6 @@ fn ahead_of(rests: &[u64], s: usize) -> u64
     rests
         .iter()
         .enumerate()
-        .filter(|(k, rest)| **rest > own || **rest == own && *k < s)
-        .count() as u64
+        .map(|(k, rest)| u64::from((*rest > own) | (*rest == own) & (k < s)))
+        .sum()
 }

@@ -69,8 +69,8 @@ pub struct Division<'a> {
     pub loads: &'a [Load],
     // All loads together.
     pub all: u64,
-    ghost fair: { Fair total (tenths loads.now) },
-    ghost added: { all ≡ sum (tenths loads.now) },
+    pub ghost fair: { Fair total (tenths loads.now) },
+    pub ghost added: { all ≡ sum (tenths loads.now) },
 }
 
 impl<'a> Division<'a> {

@@ -1,11 +1,11 @@
-use Rattle.std.proofs.Common.{◌≡◌, ℕ, map, length, take, pos}
-use Rattle.std.specs.List.{range_with_len}
-use Rattle.figures.specs.Limits.{max_seats}
+use Rattle.std.proofs.Common.{◌≡◌, ℕ, ◌<◌, ◌≤◌, length, get_or, pos}
 use Rattle.division.specs.Columns.{tenths}
-use Rattle.division.specs.Remainder.{remainder_at}
+use Rattle.division.specs.Remainder.{floor_at, remainder_at}
+use Rattle.division.proofs.Figures.{nothing}
 use Rattle.division.proofs.remainder.LargestRemainderDivisionRule.share_out.Given as goal
 
 abbrev pub invariant-loop-s : goal.invariant-loop-s
 invariant-loop-s l =
-    (length l.shares ≡ max_seats)
-    × (take l.s l.shares ≡ map (λ (k : ℕ). record { 0 = pos (remainder_at l.division.total (tenths l.division.loads.now) k) }) (range_with_len 0 l.s))
+    (length l.share-items ≡ length l.division.loads.now)
+    × ((k : ℕ) → k < l.s → get_or l.share-items k nothing ≡ record { 0 = pos (remainder_at l.division.total (tenths l.division.loads.now) k) })
+    × ((k : ℕ) → l.s ≤ k → k < length l.division.loads.now → get_or l.share-items k nothing ≡ record { 0 = pos (floor_at l.division.total (tenths l.division.loads.now) k) })
