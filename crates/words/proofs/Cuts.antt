@@ -31,8 +31,8 @@ closed_some : (f : List ℕ) (fs : List (List ℕ)) → 0 < length f → closed 
 closed_some [] fs h = absurd (omega arith)
 closed_some (b ∷ f) fs h = refl
 
-pub none : (bs : List ℕ) → Run true (length bs) bs → fields_of bs ≡ []
-none bs h = skipped (length bs) bs h ∙ ap fields_of (drop_all (length bs) bs (omega arith))
+pub none : (n : ℕ) (bs : List ℕ) → length bs ≡ n → Run true n bs → fields_of bs ≡ []
+none n bs e h = skipped n bs h ∙ ap fields_of (drop_all n bs (omega arith))
 
 -- the field that n blanks stand before, of m bytes, and the fields of what follows it
 pub first : (n m : ℕ) (bs : List ℕ) → Run true n bs → n < length bs → blank (get_or bs n 0) ≡ false → Run false m (drop n bs) → (m < length (drop n bs) → blank (get_or (drop n bs) m 0) ≡ true)

@@ -36,8 +36,12 @@ impl<'a> Iterator for SplitFields<'a> {
     ghost remaining = { item_count (λ fields. fields) };
 
     fn next(&mut self) -> Option<&'a [u8]> {
-        let start = self.rest.iter().position(|b| !is_blank(*b))?;
-        let (_, rest) = self.rest.split_at(start);
+        let line = self.rest;
+        let start = line.iter().position(|b| !is_blank(*b)).unwrap_or(line.len());
+        let (_, rest) = line.split_at(start);
+        if rest.is_empty() {
+            return None;
+        }
         let end = rest.iter().position(|b| is_blank(*b)).unwrap_or(rest.len());
         let (field, rest) = rest.split_at(end);
         self.rest = rest;
