@@ -1,5 +1,5 @@
 -- The fields of a line, one at a time: the first begins after the blanks in front, and ends before the next blank. Assumes nothing.
-use Rattle.std.proofs.Common.{◌≡◌, ℕ, zero, suc, ◌<◌, ◌≤◌, Bool, true, false, List, [], ◌∷◌, ◌++◌, length, get_or, take, drop, sym, refl, ap, ◌∙◌, append_assoc, append-nil, inl, inr, arith}
+use Rattle.std.proofs.Common.{◌≡◌, ℕ, zero, suc, ◌<◌, ◌≤◌, Bool, true, false, List, [], ◌∷◌, ◌++◌, length, get_or, take, drop, sym, refl, ap, ◌∙◌, append_assoc, append-nil, arith}
 use Rattle.std.proofs.lemmas.Bool.{cond-true, cond-false}
 use Rattle.std.proofs.lemmas.List.{drop_all, get_or-drop, length-drop, length-take}
 use Rattle.words.specs.Fields.{blank, closed, fields_after, fields_of}
@@ -8,7 +8,7 @@ use Rattle.words.specs.Fields.{blank, closed, fields_after, fields_of}
 abbrev pub Run : Bool → ℕ → List ℕ → Type 0
 Run kind n bs = (n ≤ length bs) × ((k : ℕ) → k < n → blank (get_or bs k 0) ≡ kind)
 
-pub skipped : (n : ℕ) (bs : List ℕ) → Run true n bs → fields_of bs ≡ fields_of (drop n bs)
+skipped : (n : ℕ) (bs : List ℕ) → Run true n bs → fields_of bs ≡ fields_of (drop n bs)
 skipped zero bs h = refl
 skipped (suc n) [] h = absurd (let l = h.0 in omega arith)
 skipped (suc n) (b ∷ bs) h =

@@ -1,7 +1,7 @@
 // The words of a line of text: what parts its fields, and the numbers that fields write.
 #![tactic(auto)]
 
-ghost use Rattle.std.specs.Prelude.{◌≡◌, ◌-◌, ◌^◌, min, List, ℕ};
+ghost use Rattle.std.specs.Prelude.{◌≡◌, ℕ, ◌-◌, ◌^◌, min, List};
 ghost use Rattle.std.specs.Iterator.{YieldsFirstRef, item_count};
 ghost use Rattle.std.specs.Option.{option_map};
 ghost use Rattle.words.specs.Fields.{blank, fields_of};
@@ -37,7 +37,12 @@ impl<'a> Iterator for SplitFields<'a> {
 
     fn next(&mut self) -> Option<&'a [u8]> {
         let line = self.rest;
-        let start = line.iter().position(|b| !is_blank(*b)).unwrap_or(line.len());
+
+        // The blanks in front, passed over in one go: a line may have many.
+        let start = line
+            .iter()
+            .position(|b| !is_blank(*b))
+            .unwrap_or(line.len());
         let (_, rest) = line.split_at(start);
         if rest.is_empty() {
             return None;

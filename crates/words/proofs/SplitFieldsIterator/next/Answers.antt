@@ -1,4 +1,4 @@
-use Rattle.std.proofs.Common.{rules, ◌≡◌, List, ℕ, ◌<◌, length, get_or, drop, true, false, arith, sym, ap, ◌∙◌}
+use Rattle.std.proofs.Common.{rules, ◌≡◌, ◌<◌, length, get_or, drop, true, false, arith, sym, ap, ◌∙◌}
 use Rattle.words.specs.Fields.{blank}
 use Rattle.words.proofs.Cuts.{Run, none, first}
 use Rattle.words.proofs.SplitFieldsIterator.next.Goals as goal
