@@ -2,7 +2,7 @@ ghost use Rattle.std.specs.Prelude.{◌≡◌, map, take};
 ghost use Rattle.words.specs.Fields.{fields_of};
 
 use arrayvec::ArrayVec;
-use words::split_fields;
+use words::is_blank;
 
 // The most fields of a line that are looked at: the letter, the eight of an offer, and one too many.
 pub(crate) const MOST: usize = 10;
@@ -12,7 +12,10 @@ pub(crate) fn first_fields(line: &[u8]) -> ArrayVec<&[u8], MOST>
     ensures { map (λ f. f.now) result.items ≡ take 10 (fields_of line.now) }
 {
     let mut fields = ArrayVec::new();
-    for field in split_fields(line) {
+    for field in line
+        .split(|b| is_blank(*b))
+        .filter(|field| !field.is_empty())
+    {
         if fields.is_full() {
             break;
         }

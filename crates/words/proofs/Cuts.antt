@@ -1,44 +1,45 @@
--- The fields of a line, one at a time: the first begins after the blanks in front, and ends before the next blank. Assumes nothing.
-use Rattle.std.proofs.Common.{◌≡◌, ℕ, zero, suc, ◌<◌, ◌≤◌, Bool, true, false, List, [], ◌∷◌, ◌++◌, length, get_or, take, drop, sym, refl, ap, ◌∙◌, append_assoc, append-nil, arith}
-use Rattle.std.proofs.lemmas.Bool.{cond-true, cond-false}
-use Rattle.std.proofs.lemmas.List.{drop_all, get_or-drop, length-drop, length-take}
+-- The fields of a line are the pieces between its blanks that are not empty. Assumes nothing.
+use Rattle.std.proofs.Common.{◌≡◌, ℕ, ◌<◌, Bool, true, false, List, [], ◌∷◌, ◌++◌, filter, length, sym, refl, ap, ◌∙◌, inl, inr, append_assoc, append-nil, arith}
+use Rattle.std.specs.List.{slice_split, onto_first}
+use Rattle.std.proofs.lemmas.List.Splits.{length-slice_split}
+use Rattle.std.proofs.lemmas.Bool.{cases_Bool, cond-true, cond-false}
 use Rattle.words.specs.Fields.{blank, closed, fields_after, fields_of}
 
--- the first n bytes of bs are all blank, or none is
-abbrev pub Run : Bool → ℕ → List ℕ → Type 0
-Run kind n bs = (n ≤ length bs) × ((k : ℕ) → k < n → blank (get_or bs k 0) ≡ kind)
+-- a piece that is a field
+abbrev pub some : List ℕ → Bool
+some [] = false
+some (b ∷ f) = true
 
-skipped : (n : ℕ) (bs : List ℕ) → Run true n bs → fields_of bs ≡ fields_of (drop n bs)
-skipped zero bs h = refl
-skipped (suc n) [] h = absurd (let l = h.0 in omega arith)
-skipped (suc n) (b ∷ bs) h =
-    cond-true (blank b) _ _ (h.1 0 (omega arith)) ∙ skipped n bs (let l = h.0 in omega arith, λ k l. h.1 (suc k) (omega arith))
+-- the pieces, with f put before the first
+abbrev begun : List ℕ → List (List ℕ) → List (List ℕ)
+begun f [] = f ∷ []
+begun f (g ∷ gs) = (f ++ g) ∷ gs
 
-begun : (f : List ℕ) (n : ℕ) (bs : List ℕ) → Run false n bs → fields_after f bs ≡ fields_after (f ++ take n bs) (drop n bs)
-begun f zero bs h = ap (λ (g : List ℕ). fields_after g bs) (sym (append-nil f))
-begun f (suc n) [] h = absurd (let l = h.0 in omega arith)
-begun f (suc n) (b ∷ bs) h =
-    cond-false (blank b) _ _ (h.1 0 (omega arith)) ∙ (begun (f ++ b ∷ []) n bs (let l = h.0 in omega arith, λ k l. h.1 (suc k) (omega arith))
-    ∙ ap (λ (g : List ℕ). fields_after g (drop n bs)) (append_assoc f (b ∷ []) (take n bs)))
+begun_none : (gs : List (List ℕ)) → 0 < length gs → begun [] gs ≡ gs
+begun_none [] h = absurd (omega arith)
+begun_none (g ∷ gs) h = refl
 
-ended : (f bs : List ℕ) → (0 < length bs → blank (get_or bs 0 0) ≡ true) → fields_after f bs ≡ closed f (fields_of bs)
-ended f [] h = refl
-ended f (b ∷ bs) h =
-    let e = h (omega arith) in
-    cond-true (blank b) _ _ e ∙ sym (ap (closed f) (cond-true (blank b) (fields_of bs) (fields_after (b ∷ []) bs) e))
+begun_more : (f : List ℕ) (b : ℕ) (gs : List (List ℕ)) → begun (f ++ b ∷ []) gs ≡ begun f (onto_first b gs)
+begun_more f b [] = refl
+begun_more f b (g ∷ gs) = ap (λ (h : List ℕ). h ∷ gs) (append_assoc f (b ∷ []) g)
 
-closed_some : (f : List ℕ) (fs : List (List ℕ)) → 0 < length f → closed f fs ≡ f ∷ fs
-closed_some [] fs h = absurd (omega arith)
-closed_some (b ∷ f) fs h = refl
+ended : (f : List ℕ) (gs : List (List ℕ)) → filter some ((f ++ []) ∷ gs) ≡ closed f (filter some gs)
+ended [] gs = refl
+ended (b ∷ f) gs = ap (λ (g : List ℕ). (b ∷ g) ∷ filter some gs) (append-nil f)
 
-pub none : (n : ℕ) (bs : List ℕ) → length bs ≡ n → Run true n bs → fields_of bs ≡ []
-none n bs e h = skipped n bs h ∙ ap fields_of (drop_all n bs (omega arith))
+cut : (f bs : List ℕ) → fields_after f bs ≡ filter some (begun f (slice_split blank bs))
+cut f [] = sym (ended f [])
+cut f (b ∷ bs) =
+    let gs = slice_split blank bs in
+    let n = length-slice_split blank bs in
+    elim (cases_Bool (blank b)) [
+      | inl e ↦
+          cond-true (blank b) _ _ e ∙ (ap (closed f) (cut [] bs ∙ ap (filter some) (begun_none gs (omega arith))) ∙ (sym (ended f gs)
+          ∙ sym (ap (λ (hs : List (List ℕ)). filter some (begun f hs)) (cond-true (blank b) _ _ e))))
+      | inr e ↦
+          cond-false (blank b) _ _ e ∙ (cut (f ++ b ∷ []) bs ∙ (ap (filter some) (begun_more f b gs)
+          ∙ sym (ap (λ (hs : List (List ℕ)). filter some (begun f hs)) (cond-false (blank b) _ _ e))))
+    ]
 
--- the field that n blanks stand before, of m bytes, and the fields of what follows it
-pub first : (n m : ℕ) (bs : List ℕ) → Run true n bs → n < length bs → blank (get_or bs n 0) ≡ false → Run false m (drop n bs) → (m < length (drop n bs) → blank (get_or (drop n bs) m 0) ≡ true)
-    → fields_of bs ≡ take m (drop n bs) ∷ fields_of (drop m (drop n bs))
-first n m bs h l b k e =
-    let some : 0 < m = grind (arith, get_or-drop, length-drop) in
-    let t = length-take m (drop n bs) in
-    skipped n bs h ∙ (begun [] m (drop n bs) k ∙ (ended (take m (drop n bs)) (drop m (drop n bs)) (λ p. grind (arith, get_or-drop, length-drop))
-    ∙ closed_some (take m (drop n bs)) _ (let j = k.0 in omega arith)))
+pub pieces : (bs : List ℕ) → fields_of bs ≡ filter some (slice_split blank bs)
+pieces bs = cut [] bs ∙ ap (filter some) (let n = length-slice_split blank bs in begun_none (slice_split blank bs) (omega arith))

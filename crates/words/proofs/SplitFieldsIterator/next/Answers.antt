@@ -1,6 +1,6 @@
 use Rattle.std.proofs.Common.{rules, ◌≡◌, ◌<◌, length, get_or, drop, true, false, arith, sym, ap, ◌∙◌}
 use Rattle.words.specs.Fields.{blank}
-use Rattle.words.proofs.Cuts.{Run, none, first}
+use Rattle.words.proofs.Runs.{Run, none, first}
 use Rattle.words.proofs.SplitFieldsIterator.next.Goals as goal
 
 pub returns-then-is_empty-clause-steps : goal.returns-then-is_empty-clause-steps
