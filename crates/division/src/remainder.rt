@@ -65,7 +65,8 @@ impl Division<'_> {
     }
 }
 
-// How many seats stand before seat s: their remainder is larger, or the same and theirs the lower number.
+// How many seats stand before seat s: their remainder is larger, or the same and theirs the lower number. The tests are joined
+// without a branch, which would go either way from seat to seat.
 fn ahead_of(rests: &[u64], s: usize) -> u64
     requires { s < length rests.now }
     ensures { result ≡ ahead rests.now s }
