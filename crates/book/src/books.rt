@@ -44,6 +44,7 @@ impl<S: Sheet> Sheet for Book<S> {
         self.below.zones()
     }
 
+    #[inline]
     fn cell(&self, seat: Seat, place: Place) -> Option<Kw> {
         let kw = self.below.cell(seat, place)?;
         let moved = self.ledger.moved(seat, place);

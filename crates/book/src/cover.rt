@@ -46,12 +46,14 @@ impl Offer {
 // Whether a trade is covered, hour by hour. That the sheet below is lawful is a premise of each answer and no invariant of the
 // type: a book is laid on any sheet, and its maker asks nothing of the caller.
 impl<S: Sheet> Book<S> {
-    // Whether in that hour the seller's or the buyer's cell is blank.
+    // Whether in that hour the seller's or the buyer's cell is blank. A cell of the book is blank where the one below is, so what the
+    // trades move is left aside.
     fn blank_at(&self, offer: &Offer, hour: Hour) -> bool
         ensures { Lawful S.Sheet.table S.Sheet.lawful self.now → result ≡ blank_at (table_of S.Sheet.table self.now) offer.now hour.0 }
     {
         let place = offer.place(hour);
-        self.cell(offer.seller, place).is_none() || self.cell(offer.buyer, place).is_none()
+        self.below.cell(offer.seller, place).is_none()
+            || self.below.cell(offer.buyer, place).is_none()
     }
 
     // Whether in that hour a seat holds less than the offer's kW.
