@@ -9,7 +9,7 @@ ghost use Rattle.bill.specs.Fields.{Values, Failing};
 
 use std::alloc::{AllocError, AllocFailed, Global};
 use std::fmt;
-use words::{is_blank, number};
+use words::{number, split_fields};
 
 // Why a line gives no figures.
 #[derive(Clone, Copy)]
@@ -69,10 +69,7 @@ pub(crate) fn read_figures(heap: Global, line: &[u8]) -> Result<Vec<i64>, LineFa
     ensures { MatchResult result (λ v. Values (fields_of line.now) v.items) (λ e. Failing (fields_of line.now) e) }
 {
     let mut values = Vec::new(heap);
-    for field in line
-        .split(|b| is_blank(*b))
-        .filter(|field| !field.is_empty())
-    {
+    for field in split_fields(line) {
         let Some(value) = figure(field) else {
             return Err(LineFault::NotFigure(values.len() + 1));
         };
