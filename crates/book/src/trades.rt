@@ -1,5 +1,5 @@
 ghost use Rattle.std.specs.Prelude.{◌≡◌, ◌≤◌};
-ghost use Rattle.book.specs.Trades.{turn_of, after_turn, stands, buys, sells};
+ghost use Rattle.book.specs.Trades.{turn_of, after_turn, reaches, stands, buys, sells};
 
 use crate::faults::BookFault;
 use figures::{Hour, Kw, Product, Seat, TradeNumber, Zone};
@@ -57,6 +57,19 @@ pub(crate) struct Moved {
     pub(crate) sold: u32,
 }
 
+impl Offer {
+    // Whether it is of that zone and product, and covers that hour.
+    fn reaches(&self, place: Place) -> bool
+        ensures { result ≡ reaches self.now place }
+    {
+        let zone = self.zone == place.zone;
+        let product = self.product == place.product;
+        let begun = self.first <= place.hour;
+        let lasts = place.hour <= self.last;
+        zone && product && begun && lasts
+    }
+}
+
 impl Trade {
     // Lets the event happen to the trade, or says why it cannot. State and event are matched together: that is what a trade is.
     pub fn turn(&mut self, event: TradeEvent) -> Result<Turn, BookFault>
@@ -78,12 +91,7 @@ impl Trade {
     fn stands_at(&self, place: Place) -> bool
         ensures { result ≡ stands place self.now }
     {
-        let offer = self.offer;
-        self.state == TradeState::Confirmed
-            && offer.zone == place.zone
-            && offer.product == place.product
-            && offer.first <= place.hour
-            && place.hour <= offer.last
+        self.state == TradeState::Confirmed && self.offer.reaches(place)
     }
 
     // What it moves for a seat there.
@@ -93,14 +101,8 @@ impl Trade {
         ensures most { (result.bought ≤ self.now.offer.kw.0) × (result.sold ≤ self.now.offer.kw.0) }
     {
         let offer = self.offer;
-        let stands = self.stands_at(place);
-        let share = |party: Seat| {
-            if stands && party == seat {
-                offer.kw.0
-            } else {
-                0
-            }
-        };
+        let kw = if self.stands_at(place) { offer.kw.0 } else { 0 };
+        let share = |party: Seat| if party == seat { kw } else { 0 };
         Moved {
             bought: share(offer.buyer),
             sold: share(offer.seller),
