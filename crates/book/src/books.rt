@@ -44,6 +44,7 @@ impl<S: Sheet> Sheet for Book<S> {
         self.below.zones()
     }
 
+    // Inlined, so that what no hour changes is tested once for all the hours of an offer.
     #[inline]
     fn cell(&self, seat: Seat, place: Place) -> Option<Kw> {
         let kw = self.below.cell(seat, place)?;

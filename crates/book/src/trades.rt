@@ -58,7 +58,8 @@ pub(crate) struct Moved {
 }
 
 impl Offer {
-    // Whether it is of that zone and product, and covers that hour.
+    // Whether it is of that zone and product, and covers that hour. Every cell of a book asks this of every standing trade, so the
+    // tests are made one by one and then joined: a chain of them would be a branch for each.
     fn reaches(&self, place: Place) -> bool
         ensures { result ≡ reaches self.now place }
     {
